@@ -11,3 +11,5 @@ pub mod Rows
 pub mod ClassSizes
 pub mod Chains
 pub mod Filter
+pub mod Holding
+pub mod Reading
