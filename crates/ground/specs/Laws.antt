@@ -13,3 +13,4 @@ pub mod Chains
 pub mod Filter
 pub mod Holding
 pub mod Reading
+pub mod Padding
