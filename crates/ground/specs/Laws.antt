@@ -14,3 +14,7 @@ pub mod Filter
 pub mod Holding
 pub mod Reading
 pub mod Padding
+pub mod Classes
+pub mod Sections
+pub mod Spelling
+pub mod Valid
