@@ -18,3 +18,4 @@ pub mod Classes
 pub mod Sections
 pub mod Spelling
 pub mod Valid
+pub mod Sheets
