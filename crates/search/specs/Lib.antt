@@ -1,0 +1,14 @@
+pub mod Visits
+pub mod Tables
+pub mod Weights
+pub mod Search
+pub mod Runs
+pub mod Budgets
+pub mod Standing
+pub mod Levels
+pub mod OnSheet
+pub mod Joins
+pub mod Openings
+pub mod Written
+pub mod Answer
+pub mod Answering
