@@ -12,3 +12,5 @@ pub mod Openings
 pub mod Written
 pub mod Answer
 pub mod Answering
+pub mod Finishing
+pub mod Trying
