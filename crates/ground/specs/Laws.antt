@@ -19,3 +19,4 @@ pub mod Sections
 pub mod Spelling
 pub mod Valid
 pub mod Sheets
+pub mod Choices
