@@ -20,3 +20,4 @@ pub mod Spelling
 pub mod Valid
 pub mod Sheets
 pub mod Choices
+pub mod Images

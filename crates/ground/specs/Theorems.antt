@@ -5,3 +5,4 @@
 --   Reckoned    every call has an answer, found by trying all rows and all images
 pub mod Kinds
 pub mod OneAnswer
+pub mod Reckoned

@@ -16,7 +16,7 @@ use lib.ListN.{length, getD}
 use Rattle.ground.specs.Meanings.Exactly.{_∈_, Once, Enumerates}
 use Rattle.ground.specs.Meanings.Group.{at, _≼_}
 use Rattle.ground.specs.Meanings.Listing.{Ascending}
-use Rattle.ground.specs.Laws.Enumerations.{enum-append, enum-iff, once-map}
+use Rattle.ground.specs.Laws.Enumerations.{enum-append, enum-iff, once-map, filter, kept, filter-in}
 use Rattle.ground.specs.Laws.Sheets.{Ascends}
 
 pub record Drawn (ls : List (List ℕ)) (r : List ℕ) : Type 0 where
@@ -165,3 +165,11 @@ heads-ascend (c ∷ l) R a b =
 pub choices-ascend : (ls : List (List ℕ)) → ((l : List ℕ) → l ∈ ls → Ascends l) → Ascending (choices ls)
 choices-ascend [] f = (λ s m. absurd (List·Memᴰ·not-nil m), tt)
 choices-ascend (l ∷ ls) f = heads-ascend l (choices ls) (f l (List·Memᴰ·head refl)) (choices-ascend ls (λ m i. f m (List·Memᴰ·tail i)))
+
+kept-ascend : {P : List ℕ → Type 0} (f : (r : List ℕ) → Dec (P r)) (r : List ℕ) (l : List (List ℕ)) → ((s : List ℕ) → s ∈ l → r ≼ s) → Ascending (filter f l) → (d : Dec (P r)) → Ascending (kept d r (filter f l))
+kept-ascend f r l a b (yes q) = (λ s m. a s (filter-in f l s m .0), b)
+kept-ascend f r l a b (no n) = b
+
+pub filter-ascend : {P : List ℕ → Type 0} (f : (r : List ℕ) → Dec (P r)) (l : List (List ℕ)) → Ascending l → Ascending (filter f l)
+filter-ascend f [] a = tt
+filter-ascend f (r ∷ l) a = kept-ascend f r l (a .0) (filter-ascend f l (a .1)) (f r)
