@@ -8,14 +8,13 @@
 -- Assumes nothing.
 use mathlib.Core.Path.{_≡_, refl, sym, ap, subst, _∙_}
 use mathlib.Core.Logic.{_⊎_, inl, inr}
-use mathlib.Core.List.{List, [], _∷_, map, List-discrete, List·Memᴰ·head, List·Memᴰ·cases-cons, List·Memᴰ·not-nil, Memᴰ·cast, Memᴰ·map, Memᴰ·of-map}
+use mathlib.Core.List.{List, [], _∷_, map, List·Memᴰ·head, List·Memᴰ·cases-cons, List·Memᴰ·not-nil, Memᴰ·cast, Memᴰ·map, Memᴰ·of-map}
 use Prim.Native.Nat.{ℕ, zero, suc, _<_}
-use native.Mathlib.Decide.{ℕ-discrete}
 use native.Mathlib.Omega.{arith}
 use lib.ListN.{length, getD, replicate, length-replicate, getD-replicate}
 use Rattle.ground.specs.Meanings.Exactly.{_∈_, Once, Enumerates}
 use Rattle.ground.specs.Meanings.Group.{at, tab, mul, identity, Member, none, step, In, move, Image}
-use Rattle.ground.specs.Laws.Lists.{at-tab, length-tab, mem-at, at-mem, once-of-inj}
+use Rattle.ground.specs.Laws.Lists.{row?, at-tab, length-tab, mem-at, at-mem, once-of-inj}
 use Rattle.ground.specs.Laws.Enumerations.{enum-iff}
 use Rattle.ground.specs.Laws.Closure.{Reach, here, further, closure, closure-enum}
 use Rattle.ground.specs.Laws.Permutations.{mem-range}
@@ -68,14 +67,14 @@ in-rowsBelow k r m e b =
     same zero l i = absurd (List·Memᴰ·not-nil i)
     same (suc m) l i = elim (List·Memᴰ·cases-cons i) [ inl q ↦ q | inr t ↦ same m l t ]
 
-pub images : ℕ → List (List ℕ) → List ℕ → List (List ℕ)
-images k S r = closure (List-discrete ℕ-discrete) (moves S) (length (rowsBelow k (length r))) (r ∷ [])
+unfoldable pub images : ℕ → List (List ℕ) → List ℕ → List (List ℕ)
+images k S r = closure row? (moves S) (length (rowsBelow k (length r))) (r ∷ [])
 
 pub images-enum : {k : ℕ} {S : List (List ℕ)} → Perms k (In S) → (r : List ℕ) → Below k r → Enumerates (Image k (In S) r) (images k S r)
 unfolding images
 images-enum {k} {S} P r b =
     enum-iff (λ s. reach-image P b) (λ s. image-reach P b)
-    (closure-enum (List-discrete ℕ-discrete) (moves S) (rowsBelow k (length r))
+    (closure-enum row? (moves S) (rowsBelow k (length r))
     (λ s m. let i = reach-image P b m in in-rowsBelow k s (length r) (image-length i) (image-below P b i)))
 
 -- ---- the members of the group as a list
@@ -83,8 +82,8 @@ images-enum {k} {S} P r b =
 abbrev pub products : List (List ℕ) → List ℕ → List (List ℕ)
 products S g = map (λ s. mul g s) S
 
-pub members : ℕ → List (List ℕ) → List (List ℕ)
-members k S = closure (List-discrete ℕ-discrete) (products S) (length (rowsBelow k k)) (identity k ∷ [])
+unfoldable pub members : ℕ → List (List ℕ) → List (List ℕ)
+members k S = closure row? (products S) (length (rowsBelow k k)) (identity k ∷ [])
 
 module _ {k : ℕ} {S : List (List ℕ)} where
   reach-member : {g : List ℕ} → Reach (products S) (identity k) g → Member k (In S) g
@@ -99,5 +98,5 @@ module _ {k : ℕ} {S : List (List ℕ)} where
   unfolding members
   members-enum P =
       enum-iff (λ g. reach-member) (λ g. reach-of-member)
-      (closure-enum (List-discrete ℕ-discrete) (products S) (rowsBelow k k)
+      (closure-enum row? (products S) (rowsBelow k k)
       (λ g m. let a = member-perm P (reach-member m) in in-rowsBelow k g k (a .size) (λ x i. let w = at-mem i in subst (λ (y : ℕ). y < k) (w .2) (a .below (w .0) (omega (arith, w .1, a .size))))))

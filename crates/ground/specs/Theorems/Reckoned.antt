@@ -35,12 +35,12 @@ use Rattle.ground.specs.Theorems.Kinds.{whole-kinds}
 -- ---- decisions
 
 -- of a test and what it says
-decided : {A : Type 0} (b : Bool) → (b ≡ true → A) → (A → b ≡ true) → Dec A
+unfoldable pub decided : {A : Type 0} (b : Bool) → (b ≡ true → A) → (A → b ≡ true) → Dec A
 decided true f g = yes (f refl)
 decided false f g = no (λ a. let h = g a in let z : _≡_ {A = ℕ} 0 1 = cc in omega arith)
 
 -- of all members of a list
-all? : {A : Type 0} {P : A → Type 0} → ((x : A) → Dec (P x)) → (l : List A) → Dec ((x : A) → x ∈ l → P x)
+unfoldable pub all? : {A : Type 0} {P : A → Type 0} → ((x : A) → Dec (P x)) → (l : List A) → Dec ((x : A) → x ∈ l → P x)
 all? {A} {P} f l = go (all-or (λ x. way x (f x)) l)
   where
     way : (x : A) → Dec (P x) → P x ⊎ (¬ P x)
@@ -52,7 +52,7 @@ all? {A} {P} f l = go (all-or (λ x. way x (f x)) l)
     go (inr w) = no (λ h. w .2 (h (w .0) (w .1)))
 
 -- of all numbers below n
-below? : {P : ℕ → Type 0} → ((i : ℕ) → Dec (P i)) → (n : ℕ) → Dec ((i : ℕ) → i < n → P i)
+unfoldable pub below? : {P : ℕ → Type 0} → ((i : ℕ) → Dec (P i)) → (n : ℕ) → Dec ((i : ℕ) → i < n → P i)
 below? f zero = yes (λ i h. absurd (omega arith))
 below? {P} f (suc n) = go (below? f n) (f n)
   where
@@ -65,12 +65,12 @@ below? {P} f (suc n) = go (below? f n) (f n)
         one i l (yes r) = rw r q
         one i l (no r) = h i (omega arith)
 
-implies? : {A B : Type 0} → Dec A → Dec B → Dec (A → B)
+unfoldable pub implies? : {A B : Type 0} → Dec A → Dec B → Dec (A → B)
 implies? a (yes b) = yes (λ x. b)
 implies? (no f) (no g) = yes (λ x. absurd (f x))
 implies? (yes a) (no g) = no (λ h. g (h a))
 
-order? : (r s : List ℕ) → Dec (r ≼ s)
+unfoldable pub order? : (r s : List ℕ) → Dec (r ≼ s)
 order? [] s = yes tt
 order? (a ∷ r) [] = no (λ h. h)
 order? (a ∷ r) (b ∷ s) = go (three a b) (order? r s)
@@ -81,10 +81,10 @@ order? (a ∷ r) (b ∷ s) = go (three a b) (order? r s)
     go (inr (inl e)) (no f) = no (λ t. elim t [ inl l ↦ omega arith | inr w ↦ f (w .1) ])
     go (inr (inr m)) d = no (λ t. elim t [ inl l ↦ omega arith | inr w ↦ omega (arith, w .0) ])
 
-listed? : (X : Sheet) (i c : ℕ) → Dec (c ∈ list X i)
+unfoldable pub listed? : (X : Sheet) (i c : ℕ) → Dec (c ∈ list X i)
 listed? X i c = decided (isIn c (list X i)) (isIn-mem c (list X i)) (mem-isIn c (list X i))
 
-keeps? : (X : Sheet) (r : List ℕ) → Dec (Keeps X r)
+unfoldable pub keeps? : (X : Sheet) (r : List ℕ) → Dec (Keeps X r)
 keeps? X r = named (all? one (X .rules))
   where
     one : (q : Rule) → Dec (q .risers .left < length r → q .risers .right < length r → Allows q (at r (q .risers .left)) (at r (q .risers .right)))
@@ -98,24 +98,24 @@ keeps? X r = named (all? one (X .rules))
     named (no f) = no (λ k. f (k .each))
 
 -- the row comes first in the list of its images
-abbrev Leading : Sheet → List ℕ → Type 0
+abbrev pub Leading : Sheet → List ℕ → Type 0
 Leading X r = (s : List ℕ) → s ∈ images (X .carriers) (X .swaps) r → r ≼ s
 
-leading? : (X : Sheet) (r : List ℕ) → Dec (Leading X r)
+unfoldable pub leading? : (X : Sheet) (r : List ℕ) → Dec (Leading X r)
 leading? X r = all? (order? r) (images (X .carriers) (X .swaps) r)
 
 -- ---- rows, plans, lines
 
-openedRows : Sheet → List (List ℕ)
+unfoldable pub openedRows : Sheet → List (List ℕ)
 openedRows X = filter (leading? X) (filter (keeps? X) (beginnings (X .lists)))
 
-plansOf : Sheet → List (List ℕ)
+unfoldable pub plansOf : Sheet → List (List ℕ)
 plansOf X = filter (keeps? X) (choices (X .lists))
 
-line : Sheet → List ℕ → Line
+unfoldable pub line : Sheet → List ℕ → Line
 line X r = record { row = r; size = length (images (X .carriers) (X .swaps) r) }
 
-linesOf : Sheet → List Line
+unfoldable pub linesOf : Sheet → List Line
 linesOf X = map (line X) (filter (leading? X) (plansOf X))
 
 module _ {X : Sheet} (Z : Sound X) where
@@ -177,7 +177,7 @@ module _ {X : Sheet} (Z : Sound X) where
 
 -- ---- listing
 
-reckonOn : Sheet → ℕ → List ℕ → List ℕ → Left
+unfoldable pub reckonOn : Sheet → ℕ → List ℕ → List ℕ → Left
 reckonOn X allowance bytes sizes =
     let opened : ℕ = length (openedRows X) in
     let F : List Line = linesOf X in
@@ -187,11 +187,11 @@ reckonOn X allowance bytes sizes =
     (left 11 0 (length F) opened (length (plansOf X)) (filled 255 bytes) (filled 0 sizes))
     (left 0 0 (length F) opened (length (plansOf X)) (over (flat (rowsOf F)) bytes) (over (sizesOf F) sizes)))
 
-reckonRead : Outcome Sheet → ℕ → List ℕ → List ℕ → Left
+unfoldable pub reckonRead : Outcome Sheet → ℕ → List ℕ → List ℕ → Left
 reckonRead (got X end) allowance bytes sizes = reckonOn X allowance bytes sizes
 reckonRead (refused q p) allowance bytes sizes = left q p 0 0 0 bytes sizes
 
-pub reckonList : List ℕ → ℕ → List ℕ → List ℕ → Left
+unfoldable pub reckonList : List ℕ → ℕ → List ℕ → List ℕ → Left
 reckonList s allowance bytes sizes = reckonRead (jobSheet s 0) allowance bytes sizes
 
 counts-of : {A : Type 0} {P : A → Type 0} {l : List A} → Enumerates P l → Counts P (length l)
@@ -226,7 +226,7 @@ reckoned-list s allowance bytes sizes = go (jobSheet s 0) refl
 
 -- ---- folding
 
-whole? : (X : Sheet) (r : List ℕ) → Dec (Whole X r)
+unfoldable pub whole? : (X : Sheet) (r : List ℕ) → Dec (Whole X r)
 whole? X r = go (ℕ-discrete (length r) (risers X)) (below? (λ i. listed? X i (at r i)) (length r))
   where
     go : Dec (length r ≡ risers X) → Dec ((i : ℕ) → i < length r → at r i ∈ list X i) → Dec (Whole X r)
@@ -234,7 +234,7 @@ whole? X r = go (ℕ-discrete (length r) (risers X)) (below? (λ i. listed? X i 
     go (yes e) (no f) = no (λ w. f (w .listed))
     go (no f) d = no (λ w. f (w .long))
 
-fitting? : (X : Sheet) (first member : List ℕ) → Dec (Fitting X first member)
+unfoldable pub fitting? : (X : Sheet) (first member : List ℕ) → Dec (Fitting X first member)
 fitting? X first member = go (ℕ-discrete (length first) (risers X)) (ℕ-discrete (length member) (X .carriers))
   where
     go : Dec (length first ≡ risers X) → Dec (length member ≡ X .carriers) → Dec (Fitting X first member)
@@ -243,13 +243,13 @@ fitting? X first member = go (ℕ-discrete (length first) (risers X)) (ℕ-discr
     go (no g) d = no (λ w. g (w .row))
 
 -- the member takes the row to one that comes before all its images
-abbrev Folding : Sheet → List ℕ → List ℕ → Type 0
+abbrev pub Folding : Sheet → List ℕ → List ℕ → Type 0
 Folding X row g = (s : List ℕ) → s ∈ images (X .carriers) (X .swaps) row → move g row ≼ s
 
-folding? : (X : Sheet) (row g : List ℕ) → Dec (Folding X row g)
+unfoldable pub folding? : (X : Sheet) (row g : List ℕ) → Dec (Folding X row g)
 folding? X row g = all? (order? (move g row)) (images (X .carriers) (X .swaps) row)
 
-head : List (List ℕ) → List ℕ
+unfoldable pub head : List (List ℕ) → List ℕ
 head [] = []
 head (g ∷ l) = g
 
@@ -258,19 +258,19 @@ unfolding head
 head-in [] g m = absurd (List·Memᴰ·not-nil m)
 head-in (h ∷ l) g m = List·Memᴰ·head refl
 
-foldingMember : Sheet → List ℕ → List ℕ
+unfoldable pub foldingMember : Sheet → List ℕ → List ℕ
 foldingMember X row = head (filter (folding? X row) (members (X .carriers) (X .swaps)))
 
-foldOn : (X : Sheet) (row first member : List ℕ) → Dec (Whole X row) → Dec (Fitting X first member) → Folded
+unfoldable pub foldOn : (X : Sheet) (row first member : List ℕ) → Dec (Whole X row) → Dec (Fitting X first member) → Folded
 foldOn X row first member (no f) d = folded 12 0 0 first member
 foldOn X row first member (yes w) (no f) = folded 13 0 0 first member
 foldOn X row first member (yes w) (yes t) = folded 0 0 (length (images (X .carriers) (X .swaps) row)) (move (foldingMember X row) row) (foldingMember X row)
 
-foldRead : Outcome Sheet → List ℕ → List ℕ → List ℕ → Folded
+unfoldable pub foldRead : Outcome Sheet → List ℕ → List ℕ → List ℕ → Folded
 foldRead (got X end) row first member = foldOn X row first member (whole? X row) (fitting? X first member)
 foldRead (refused q p) row first member = folded q p 0 first member
 
-pub reckonFold : List ℕ → List ℕ → List ℕ → List ℕ → Folded
+unfoldable pub reckonFold : List ℕ → List ℕ → List ℕ → List ℕ → Folded
 reckonFold s row first member = foldRead (jobSheet s 0) row first member
 
 module _ (X : Sheet) (Z : Sound X) (row : List ℕ) (w : Whole X row) where
