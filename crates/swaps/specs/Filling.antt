@@ -24,22 +24,21 @@ pub table-map : (f : ℕ → ℕ) (l : List ℕ) → tab (length l) (λ j. f (at
 table-map f [] = refl
 table-map f (a ∷ l) = ap (λ (m : List ℕ). f a ∷ m) (table-map f l)
 
-module _ (f : ℕ → ℕ) (start : List ℕ) where
-  pub filled-start : Filled f start start 0
-  filled-start = record { within = omega arith; size = refl; done = λ j l. absurd (omega arith); rest = λ j l. refl }
+pub filled-start : (f : ℕ → ℕ) (start : List ℕ) → Filled f start start 0
+filled-start f start = record { within = omega arith; size = refl; done = λ j l. absurd (omega arith); rest = λ j l. refl }
 
-  module _ (out : List ℕ) (i : ℕ) (s : Filled f start out i) where
-    pub filled-more : i < length start → (v : ℕ) → v ≡ f i → Filled f start (set out i v) (i + 1)
-    filled-more h v e =
-        let l : i < length out = omega (arith, s .size) in
-        record {
-          within = omega arith;
-          size = length-set out i v ∙ s .size;
-          done = rw e (fill-more f out i l (s .done));
-          rest = λ j m. getD-set-other out i j v 0 (λ (d : j ≡ i). omega arith) ∙ s .rest j (omega arith);
-        }
+module _ {f : ℕ → ℕ} {start out : List ℕ} {i : ℕ} (s : Filled f start out i) where
+  pub filled-more : i < length start → (v : ℕ) → v ≡ f i → Filled f start (set out i v) (i + 1)
+  filled-more h v e =
+      let l : i < length out = omega (arith, s .size) in
+      record {
+        within = omega arith;
+        size = length-set out i v ∙ s .size;
+        done = rw e (fill-more f out i l (s .done));
+        rest = λ j m. getD-set-other out i j v 0 (λ (d : j ≡ i). omega arith) ∙ s .rest j (omega arith);
+      }
 
-    pub filled-table : length start ≤ i → out ≡ tab (length start) f
-    filled-table h =
-        ext-getD 0 out (tab (length start) f) (s .size ∙ sym (length-tab (length start) f))
-        (λ j l. s .done j (omega (arith, s .size)) ∙ sym (at-tab (length start) f j (omega (arith, s .size))))
+  pub filled-table : length start ≤ i → out ≡ tab (length start) f
+  filled-table h =
+      ext-getD 0 out (tab (length start) f) (s .size ∙ sym (length-tab (length start) f))
+      (λ j l. s .done j (omega (arith, s .size)) ∙ sym (at-tab (length start) f j (omega (arith, s .size))))

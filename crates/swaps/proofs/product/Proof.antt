@@ -35,7 +35,7 @@ loop-less c = omega arith
 
 loop-again : tie.Need-loop-again Inv-loop μ-loop
 loop-again c =
-    filled-more _ _ _ _ (c .before .before .loop .inv) (c .before .loop-test .taken) _
+    filled-more (c .before .before .loop .inv) (c .before .loop-test .taken) _
     (c .taken .ensures)
 
 returns : tie.Need-returns Inv-loop μ-loop
@@ -44,7 +44,7 @@ returns c =
     let p = c .before .before .args .t1 in
     let q = c .before .before .args .q in
     let width : length p ≡ 15 = omega arith in
-    filled-table _ _ _ _ (c .before .loop .inv) (c .loop-test .left) ∙ rw width at (table-map (at q) p)
+    filled-table (c .before .loop .inv) (c .loop-test .left) ∙ rw width at (table-map (at q) p)
 
 pub product-spec : {M : Type 1} → statement M
 product-spec =
