@@ -22,7 +22,7 @@ use lib.ListN.{length, take, drop, set, replicate, length-set, length-replicate,
 use lib.Seq.{take-suc, drop-cons, getD-set-same, getD-set-other}
 use Rattle.ground.specs.Meanings.Group.{at}
 use Rattle.ground.specs.Meanings.Sheet.{isIn, allNew}
-use Rattle.swaps.specs.Newness.{isIn-snoc}
+use Rattle.ground.specs.Laws.Newness.{isIn-snoc}
 
 -- ---- what has passed
 

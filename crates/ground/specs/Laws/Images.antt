@@ -6,12 +6,12 @@
 --
 -- A row is an image exactly if swaps reach it (`reach-image`, `image-reach`), so the list is right (`images-enum`).
 -- Assumes nothing.
-use mathlib.Core.Path.{_≡_, refl, sym, ap, subst, _∙_}
-use mathlib.Core.Logic.{_⊎_, inl, inr}
-use mathlib.Core.List.{List, [], _∷_, map, List·Memᴰ·head, List·Memᴰ·cases-cons, List·Memᴰ·not-nil, Memᴰ·cast, Memᴰ·map, Memᴰ·of-map}
+use mathlib.Core.Path.{_≡_, sym, ap, subst, _∙_}
+use mathlib.Core.Logic.{inl, inr}
+use mathlib.Core.List.{List, [], _∷_, map, List·Memᴰ·cases-cons, List·Memᴰ·not-nil, Memᴰ·cast, Memᴰ·map, Memᴰ·of-map}
 use Prim.Native.Nat.{ℕ, zero, suc, _<_}
 use native.Mathlib.Omega.{arith}
-use lib.ListN.{length, getD, replicate, length-replicate, getD-replicate}
+use lib.ListN.{length, replicate, length-replicate, getD-replicate}
 use Rattle.ground.specs.Meanings.Exactly.{_∈_, Once, Enumerates}
 use Rattle.ground.specs.Meanings.Group.{at, tab, mul, identity, Member, none, step, In, move, Image}
 use Rattle.ground.specs.Laws.Lists.{row?, at-tab, length-tab, mem-at, at-mem, once-of-inj}
@@ -20,7 +20,7 @@ use Rattle.ground.specs.Laws.Closure.{Reach, here, further, closure, clo
 use Rattle.ground.specs.Laws.Permutations.{mem-range}
 use Rattle.ground.specs.Laws.Members.{Perms, member-perm}
 use Rattle.ground.specs.Laws.Rows.{Below, move-mul, move-identity, image-self, image-length, image-below}
-use Rattle.ground.specs.Laws.Choices.{Drawn, choices, choices-enum}
+use Rattle.ground.specs.Laws.Choices.{choices, choices-enum}
 
 abbrev pub moves : List (List ℕ) → List ℕ → List (List ℕ)
 moves S r = map (λ g. move g r) S

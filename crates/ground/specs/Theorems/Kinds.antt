@@ -6,15 +6,15 @@
 -- Rows ascend by the definition of a listing. What a listing is, is settled: there is no second one (`one-listing`).
 -- Assumes nothing.
 use mathlib.Core.Path.{_≡_, refl, sym, ap, ap₂, subst, _∙_}
-use mathlib.Core.Logic.{_⊎_, inl, inr, _↔_}
-use mathlib.Core.List.{List, [], _∷_, map, List·Memᴰ·head, List·Memᴰ·tail, List·Memᴰ·not-nil, List·Memᴰ·cases-cons, Memᴰ·cast, head-eq-of-cons-eq, tail-eq-of-cons-eq}
+use mathlib.Core.Logic.{inl, inr, _↔_}
+use mathlib.Core.List.{List, [], _∷_, List·Memᴰ·head, List·Memᴰ·tail, List·Memᴰ·not-nil, List·Memᴰ·cases-cons, Memᴰ·cast, head-eq-of-cons-eq, tail-eq-of-cons-eq}
 use Prim.Native.Nat.{ℕ}
 use native.Mathlib.Omega.{arith}
 use lib.ListN.{length, length-map}
-use Rattle.ground.specs.Meanings.Exactly.{_∈_, Once, Enumerates, Counts}
-use Rattle.ground.specs.Meanings.Group.{at, First, _≼_}
+use Rattle.ground.specs.Meanings.Exactly.{_∈_, Once}
+use Rattle.ground.specs.Meanings.Group.{at}
 use Rattle.ground.specs.Meanings.Sheet.{Sheet}
-use Rattle.ground.specs.Meanings.Plans.{Plan, ImageOn, Listable, ClassSize, TotalIs}
+use Rattle.ground.specs.Meanings.Plans.{Plan, ImageOn, ClassSize, TotalIs}
 use Rattle.ground.specs.Meanings.Folding.{Whole}
 use Rattle.ground.specs.Meanings.Listing.{Line, rowsOf, sizesOf, Ascending, Listing}
 use Rattle.ground.specs.Laws.Enumerations.{counts-same, enum-iff}

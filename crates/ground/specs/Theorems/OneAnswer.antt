@@ -10,14 +10,14 @@ use mathlib.Core.List.{List}
 use Prim.Native.Nat.{ℕ, _≤_, _<_}
 use native.Mathlib.Omega.{arith}
 use lib.ListN.{length}
-use Rattle.ground.specs.Meanings.Group.{Member, First, move}
-use Rattle.ground.specs.Meanings.Sheet.{Sheet, Outcome, got, refused, jobSheet, Accepted, Refused}
-use Rattle.ground.specs.Meanings.Plans.{risers, Swap, ImageOn, OpenedIs, TotalIs}
+use Rattle.ground.specs.Meanings.Group.{Member, move}
+use Rattle.ground.specs.Meanings.Sheet.{Sheet, Outcome, got, refused, Accepted, Refused}
+use Rattle.ground.specs.Meanings.Plans.{risers, Swap, OpenedIs}
 use Rattle.ground.specs.Meanings.Listing.{Line, Listing, Left, left, ListsOn, beyond-allowance, beyond-room, listed, Lists, room, filled, over, flat, rowsOf, sizesOf}
 use Rattle.ground.specs.Meanings.Folding.{Folded, folded, FoldsOn, not-whole, not-fitting, carried, Folds}
 use Rattle.ground.specs.Laws.Enumerations.{counts-same}
 use Rattle.ground.specs.Laws.Rows.{image-by}
-use Rattle.ground.specs.Laws.Classes.{Kinds, same-first}
+use Rattle.ground.specs.Laws.Classes.{same-first}
 use Rattle.ground.specs.Laws.Sheets.{Sound, accepted-sound}
 use Rattle.ground.specs.Theorems.Kinds.{one-listing, whole-kinds}
 

@@ -6,27 +6,27 @@
 -- With "no second answer fits" this says that the meanings name exactly one answer for every list of bytes, every allowance and
 -- all lent lists. It is far too slow for a rack, and small enough to be computed for the sheets worked by hand.
 -- Assumes nothing.
-use mathlib.Core.Path.{_≡_, refl, sym, ap, subst, _∙_}
+use mathlib.Core.Path.{_≡_, refl, sym, ap, subst}
 use mathlib.Core.Logic.{_⊎_, inl, inr}
 use mathlib.Core.Bool.{Bool, true, false, cond}
-use mathlib.Core.List.{List, [], _∷_, map, List·Memᴰ·head, List·Memᴰ·tail, List·Memᴰ·not-nil, List·Memᴰ·cases-cons, Memᴰ·map, Memᴰ·of-map}
-use Prim.Native.Nat.{ℕ, zero, suc, _≤_, _<_}
+use mathlib.Core.List.{List, [], _∷_, map, List·Memᴰ·head, List·Memᴰ·not-nil, Memᴰ·of-map}
+use Prim.Native.Nat.{ℕ, zero, suc, _<_}
 use native.Mathlib.Decide.{ℕ-discrete, decLt}
 use native.Mathlib.Omega.{arith}
 use borrow.Author.Tests.{ltb-true, ltb-false}
 use lib.Dec.{ltb}
 use lib.ListN.{length}
 use Rattle.ground.specs.Meanings.Exactly.{_∈_, Enumerates, Counts}
-use Rattle.ground.specs.Meanings.Group.{at, identity, Member, In, move, Image, First, _≼_}
-use Rattle.ground.specs.Meanings.Sheet.{Sheet, Rule, Pair, Outcome, got, refused, jobSheet, isIn, isPairIn, Accepted, Refused}
-use Rattle.ground.specs.Meanings.Plans.{risers, list, Row, Allows, Keeps, Plan, Swap, ImageOn, Listable, Opened, ClassSize, OpenedIs, TotalIs}
+use Rattle.ground.specs.Meanings.Group.{at, move, First, _≼_}
+use Rattle.ground.specs.Meanings.Sheet.{Sheet, Rule, Outcome, got, refused, jobSheet, isIn, isPairIn, Accepted}
+use Rattle.ground.specs.Meanings.Plans.{risers, list, Row, Allows, Keeps, Plan, ImageOn, Listable, Opened, ClassSize, OpenedIs, TotalIs}
 use Rattle.ground.specs.Meanings.Listing.{Line, rowsOf, sizesOf, Ascending, Listing, room, flat, over, filled, Left, left, ListsOn, beyond-allowance, beyond-room, listed, Lists}
 use Rattle.ground.specs.Meanings.Folding.{Whole, Fitting, Folded, folded, FoldsOn, not-whole, not-fitting, carried, Folds}
 use Rattle.ground.specs.Laws.Lists.{all-or}
 use Rattle.ground.specs.Laws.Enumerations.{enum-iff, enum-filter, filter, in-filter, filter-in}
 use Rattle.ground.specs.Laws.Order.{three}
-use Rattle.ground.specs.Laws.Rows.{Below, image-by, image-trans, image-back}
-use Rattle.ground.specs.Laws.Classes.{Kinds, first-exists}
+use Rattle.ground.specs.Laws.Rows.{image-by, image-trans}
+use Rattle.ground.specs.Laws.Classes.{first-exists}
 use Rattle.ground.specs.Laws.Sheets.{Sound, accepted-sound, Ascends, ascends-once, index-of, row-below, whole-row, isIn-mem, mem-isIn, isPairIn-mem, mem-isPairIn}
 use Rattle.ground.specs.Laws.Choices.{Drawn, Begun, choices, beginnings, choices-enum, beginnings-enum, choices-ascend, filter-ascend}
 use Rattle.ground.specs.Laws.Images.{images, images-enum, members, members-enum}
