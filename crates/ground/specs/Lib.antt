@@ -7,3 +7,4 @@
 pub mod Meanings
 pub mod Laws
 pub mod Theorems
+pub mod Worked

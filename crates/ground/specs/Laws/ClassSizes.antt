@@ -1,8 +1,8 @@
 -- The size of a class: the images of a row are as many as the carriers of its first carrier's orbit times the images of the
 -- rest under the members that hold that carrier (`class-size`).
 -- Assumes nothing.
-use mathlib.Core.Path.{_≡_, refl, sym, ap, ap₂, _∙_, subst}
-use mathlib.Core.Logic.{_⊎_, inl, inr}
+use mathlib.Core.Path.{_≡_, refl, sym, ap, ap₂, _∙_}
+use mathlib.Core.Logic.{inl, inr}
 use mathlib.Core.List.{List, [], _∷_, _++_, map, List·Memᴰ·head, List·Memᴰ·tail, List·Memᴰ·not-nil, List·Memᴰ·cases-cons, Memᴰ·map, Memᴰ·of-map, Memᴰ·cast, tail-eq-of-cons-eq}
 use Prim.Native.Nat.{ℕ, _*_, _<_}
 use native.Mathlib.Omega.{arith}
@@ -59,7 +59,7 @@ module _ {k : ℕ} {G H : List ℕ → Type 0} {c : ℕ} {r : List ℕ} (P : Per
     block-enum : Enumerates (λ row. Image k G (c ∷ r) row × (at row 0 ≡ p)) (block p (o .by))
     block-enum = record { once = block-once; sound = block-sound; complete = block-complete }
 
-  -- the images whose first entry is in a list of points of the orbit
+  -- the images whose first carrier is in a list of carriers of the orbit
   blocks : (O : List ℕ) → Once O → ((p : ℕ) → p ∈ O → Orbit k G c p)
       → (L : List (List ℕ)) × Enumerates (λ row. Image k G (c ∷ r) row × (at row 0 ∈ O)) L × (length L ≡ length O * length M)
   blocks [] d f =

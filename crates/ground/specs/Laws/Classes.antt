@@ -8,14 +8,14 @@
 -- their classes add up to the number of all rows that have Sol (`count-all`).
 -- Nothing here speaks of what an image is: swaps of carriers are one case.
 -- Assumes nothing.
-use mathlib.Core.Path.{_≡_, refl, sym, ap, _∙_, subst}
+use mathlib.Core.Path.{_≡_, refl, sym, subst}
 use mathlib.Core.Logic.{_⊎_, inl, inr}
 use mathlib.Core.List.{List, [], _∷_, _++_, List·Memᴰ·head, List·Memᴰ·tail, List·Memᴰ·not-nil, List·Memᴰ·cases-cons, Memᴰ·cast}
 use Prim.Native.Nat.{ℕ, _+_}
 use native.Mathlib.Omega.{arith}
-use lib.ListN.{length, length-append}
+use lib.ListN.{length-append}
 use Rattle.ground.specs.Meanings.Exactly.{_∈_, Once, Enumerates, Counts}
-use Rattle.ground.specs.Meanings.Group.{First, _≼_}
+use Rattle.ground.specs.Meanings.Group.{First}
 use Rattle.ground.specs.Laws.Enumerations.{enum-append, enum-iff}
 use Rattle.ground.specs.Laws.Order.{order-antisym, order-least}
 

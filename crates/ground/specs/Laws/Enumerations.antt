@@ -5,7 +5,7 @@
 -- The one argument behind it is the pigeonhole: a list with nothing twice is no longer than one that has all of it.
 -- Assumes nothing.
 use mathlib.Core.Path.{_≡_, refl, sym, ap, _∙_, subst}
-use mathlib.Core.List.{List, [], _∷_, _++_, map, List·Memᴰ·head, List·Memᴰ·tail, List·Memᴰ·cases-cons, List·Memᴰ·not-nil, List·Memᴰ·append-cases, Memᴰ·append-left, Memᴰ·append-right, Memᴰ·map, Memᴰ·of-map, Memᴰ·cast}
+use mathlib.Core.List.{List, [], _∷_, _++_, map, List·Memᴰ·head, List·Memᴰ·tail, List·Memᴰ·cases-cons, List·Memᴰ·not-nil, List·Memᴰ·append-cases, Memᴰ·append-left, Memᴰ·append-right, Memᴰ·of-map, Memᴰ·cast}
 use mathlib.Core.Logic.{_⊎_, inl, inr}
 use Prim.Native.Nat.{ℕ, suc, _≤_, zero-le}
 use native.Mathlib.Omega.{arith}
@@ -79,3 +79,45 @@ once-map f (x ∷ l) a i = (
 
 pub counts-iff : {A : Type 0} {P Q : A → Type 0} {n : ℕ} → ((x : A) → P x → Q x) → ((x : A) → Q x → P x) → Counts P n → Counts Q n
 counts-iff f g c = record { list = c .list; enumerates = enum-iff f g (c .enumerates); number = c .number }
+
+-- ---- those of an enumeration that have a second property
+
+abbrev pub kept : {A B : Type 0} → Dec B → A → List A → List A
+kept (yes q) a l = a ∷ l
+kept (no g) a l = l
+
+abbrev pub filter : {A : Type 0} {Q : A → Type 0} → ((x : A) → Dec (Q x)) → List A → List A
+filter q? [] = []
+filter q? (a ∷ l) = kept (q? a) a (filter q? l)
+
+module _ {A : Type 0} {Q : A → Type 0} (q? : (x : A) → Dec (Q x)) where
+  kept-in : (a : A) (l : List A) (x : A) → (x ∈ filter q? l → (x ∈ l) × Q x) → (d : Dec (Q a)) → x ∈ kept d a (filter q? l) → (x ∈ (a ∷ l)) × Q x
+  kept-in a l x f (yes q) m = elim (List·Memᴰ·cases-cons m) [ inl e ↦ (List·Memᴰ·head e, subst Q (sym e) q) | inr t ↦ (List·Memᴰ·tail (f t .0), f t .1) ]
+  kept-in a l x f (no g) m = (List·Memᴰ·tail (f m .0), f m .1)
+
+  pub filter-in : (l : List A) (x : A) → x ∈ filter q? l → (x ∈ l) × Q x
+  filter-in [] x m = absurd (List·Memᴰ·not-nil m)
+  filter-in (a ∷ l) x m = kept-in a l x (filter-in l x) (q? a) m
+
+  in-kept : (a : A) (l : List A) (x : A) → Q x → (x ∈ l → x ∈ filter q? l) → (d : Dec (Q a)) → x ∈ (a ∷ l) → x ∈ kept d a (filter q? l)
+  in-kept a l x h f (yes q) m = elim (List·Memᴰ·cases-cons m) [ inl e ↦ List·Memᴰ·head e | inr t ↦ List·Memᴰ·tail (f t) ]
+  in-kept a l x h f (no g) m = elim (List·Memᴰ·cases-cons m) [ inl e ↦ absurd (g (subst Q e h)) | inr t ↦ f t ]
+
+  pub in-filter : (l : List A) (x : A) → x ∈ l → Q x → x ∈ filter q? l
+  in-filter [] x m h = absurd (List·Memᴰ·not-nil m)
+  in-filter (a ∷ l) x m h = in-kept a l x h (λ t. in-filter l x t h) (q? a) m
+
+  kept-once : (a : A) (l : List A) → ¬ (a ∈ l) → Once (filter q? l) → (d : Dec (Q a)) → Once (kept d a (filter q? l))
+  kept-once a l f o (yes q) = (λ m. f (filter-in l a m .0), o)
+  kept-once a l f o (no g) = o
+
+  filter-once : (l : List A) → Once l → Once (filter q? l)
+  filter-once [] d = tt
+  filter-once (a ∷ l) d = kept-once a l (d .0) (filter-once l (d .1)) (q? a)
+
+  pub enum-filter : {P : A → Type 0} {l : List A} → Enumerates P l → Enumerates (λ x. P x × Q x) (filter q? l)
+  enum-filter {l = l} e = record {
+    once = filter-once l (e .once);
+    sound = λ x m. let w = filter-in l x m in (e .sound x (w .0), w .1);
+    complete = λ x w. in-filter l x (e .complete x (w .0)) (w .1);
+  }

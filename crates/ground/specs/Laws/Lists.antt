@@ -1,16 +1,16 @@
 -- Lists: a table of a function, places and members, what is decided of all members.
 --
 -- `at-tab`, `at-map` say what stands at a place; `mem-at`, `at-mem` go between places and members; `mem?` and `all-or`
--- decide where each case is decided; `fill-more` is one turn of a loop that fills a table.
+-- decide where each case is decided, `row?` tells rows apart; `fill-more` is one turn of a loop that fills a table.
 -- Assumes nothing.
-use mathlib.Core.Path.{_≡_, refl, sym, ap, _∙_, subst}
-use mathlib.Core.List.{List, [], _∷_, _++_, map, List·Memᴰ, List·Memᴰ·head, List·Memᴰ·tail, List·Memᴰ·cases-cons, List·Memᴰ·not-nil}
+use mathlib.Core.Path.{_≡_, refl, sym, ap, ap₂, _∙_}
+use mathlib.Core.List.{List, [], _∷_, map, List·Memᴰ·head, List·Memᴰ·tail, List·Memᴰ·cases-cons, List·Memᴰ·not-nil, head-eq-of-cons-eq, tail-eq-of-cons-eq}
 use mathlib.Core.Logic.{_⊎_, inl, inr}
-use Prim.Native.Nat.{ℕ, zero, suc, _+_, _≤_, _<_, zero-le, suc-le-suc}
+use Prim.Native.Nat.{ℕ, zero, suc, _+_, _<_, zero-le, suc-le-suc}
 use native.Mathlib.Nat.{le-of-suc-le-suc, not-suc-le-zero, suc-inj, suc-ne-zero, zero-lt-suc}
 use native.Mathlib.Decide.{ℕ-discrete}
 use native.Mathlib.Omega.{arith}
-use lib.ListN.{length, getD, set}
+use lib.ListN.{length, set}
 use lib.Seq.{getD-set-same, getD-set-other}
 use Rattle.ground.specs.Meanings.Exactly.{_∈_, Once}
 use Rattle.ground.specs.Meanings.Group.{at, tab}
@@ -54,7 +54,7 @@ once-of-inj (a ∷ l) h = (
 
 module _ {ℓ} {A : Type ℓ} where
   -- where equality is decided, so is membership
-  pub mem? : Discrete A → (a : A) (l : List A) → (a ∈ l) ⊎ (¬ (a ∈ l))
+  unfoldable pub mem? : Discrete A → (a : A) (l : List A) → (a ∈ l) ⊎ (¬ (a ∈ l))
   mem? dec a [] = inr List·Memᴰ·not-nil
   mem? dec a (b ∷ l) = go (dec a b) (mem? dec a l)
     where
@@ -63,8 +63,20 @@ module _ {ℓ} {A : Type ℓ} where
       go (no f) (inl m) = inl (List·Memᴰ·tail m)
       go (no f) (inr g) = inr (λ m. elim (List·Memᴰ·cases-cons m) [ inl e ↦ f e | inr t ↦ g t ])
 
+-- rows are told apart
+unfoldable pub row? : (r s : List ℕ) → Dec (r ≡ s)
+row? [] [] = yes refl
+row? [] (b ∷ s) = no (λ e. omega (arith, ap (λ (l : List ℕ). length l) e))
+row? (a ∷ r) [] = no (λ e. omega (arith, ap (λ (l : List ℕ). length l) e))
+row? (a ∷ r) (b ∷ s) = go (ℕ-discrete a b) (row? r s)
+  where
+    go : Dec (a ≡ b) → Dec (r ≡ s) → Dec (a ∷ r ≡ b ∷ s)
+    go (yes e) (yes f) = yes (ap₂ _∷_ e f)
+    go (yes e) (no f) = no (λ g. f (tail-eq-of-cons-eq g))
+    go (no f) d = no (λ g. f (head-eq-of-cons-eq g))
+
 -- each member has P, or there is one that has Q
-pub all-or : {A : Type 0} {P Q : A → Type 0} → ((x : A) → P x ⊎ Q x) → (l : List A) → ((x : A) → x ∈ l → P x) ⊎ ((x : A) × x ∈ l × Q x)
+unfoldable pub all-or : {A : Type 0} {P Q : A → Type 0} → ((x : A) → P x ⊎ Q x) → (l : List A) → ((x : A) → x ∈ l → P x) ⊎ ((x : A) × x ∈ l × Q x)
 all-or f [] = inl (λ x m. absurd (List·Memᴰ·not-nil m))
 all-or {A} {P} {Q} f (a ∷ l) = go (f a) (all-or f l)
   where

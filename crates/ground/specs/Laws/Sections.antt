@@ -6,7 +6,7 @@
 use mathlib.Core.Path.{_≡_, refl}
 use mathlib.Core.List.{List, []}
 use Prim.Native.Nat.{ℕ}
-use Rattle.ground.specs.Meanings.Sheet.{Outcome, got, refused, Reading, andThen, field, checked, byte, two, Pair, many, count, carrier, riser, Rule, allowedPair, ruleThat, rule, swap, nothingMore, Sheet, jobSheet, listedIn, allowedBy, after, before, allNew, keepsLists, keepsRules, most-carriers, most-risers, most-rules, most-pairs, most-swaps, Accepted}
+use Rattle.ground.specs.Meanings.Sheet.{Outcome, got, andThen, many, count, riser, Rule, rule, swap, nothingMore, Sheet, jobSheet, listedIn, allowedBy, most-carriers, most-risers, most-rules, most-swaps}
 
 module _ (s : List ℕ) where
   abbrev pub last : ℕ → List (List ℕ) → List Rule → List (List ℕ) → ℕ → Outcome Sheet

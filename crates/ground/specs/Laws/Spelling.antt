@@ -5,7 +5,7 @@
 --
 -- Assumes nothing.
 use mathlib.Core.Path.{_≡_, refl, sym, ap, ap₂, _∙_, subst}
-use mathlib.Core.Bool.{Bool, true, false, cond, _&&_}
+use mathlib.Core.Bool.{Bool, true, false, cond}
 use mathlib.Core.List.{List, [], _∷_, _++_, append-assoc, append-nil}
 use Prim.Native.Nat.{ℕ, zero, suc, _+_, _<_, _≤_}
 use native.Mathlib.Omega.{arith}
@@ -14,8 +14,8 @@ use lib.Dec.{leb, eqb}
 use lib.ListN.{length, getD, take, drop, take-append-drop}
 use lib.Seq.{drop-drop, drop-cons, drop-length}
 use borrow.Author.Tests.{leb-true, eqb-true}
-use Rattle.ground.specs.Meanings.Sheet.{Outcome, got, refused, Reading, andThen, field, checked, byte, two, Pair, many, count, carrier, riser, Rule, allowedPair, ruleThat, rule, swap, nothingMore, Sheet, jobSheet, listedIn, allowedBy, after, before, allNew, keepsLists, keepsRules, most-carriers, most-risers, most-rules, most-pairs, most-swaps, Accepted}
-use Rattle.ground.specs.Laws.Reading.{andThen-got, byte-in, two-in, field-in, checked-passed, many-length}
+use Rattle.ground.specs.Meanings.Sheet.{got, refused, Reading, andThen, field, checked, byte, two, Pair, many, count, carrier, riser, Rule, allowedPair, ruleThat, rule, swap, nothingMore, Sheet, jobSheet, listedIn, allowedBy, most-carriers, most-risers, most-rules, most-pairs, most-swaps}
+use Rattle.ground.specs.Laws.Reading.{andThen-got, byte-in, two-in, checked-passed, many-length}
 use Rattle.ground.specs.Laws.Sections.{whole, last, from-swaps, from-rules, from-risers}
 
 -- The spelling

@@ -9,14 +9,14 @@
 use mathlib.Core.Path.{_≡_, refl, sym, ap, ap₂, _∙_, subst}
 use mathlib.Core.Bool.{Bool, true, false, cond, _&&_}
 use mathlib.Core.List.{List, [], _∷_, _++_, append-assoc, append-nil, map}
-use Prim.Native.Nat.{ℕ, zero, suc, _+_, _-_, _<_, _≤_}
+use Prim.Native.Nat.{ℕ, zero, suc, _+_, _<_, _≤_}
 use native.Mathlib.Omega.{arith}
-use lib.Dec.{ltb, leb, eqb}
-use lib.ListN.{length, getD, take, drop, length-append, length-drop}
-use lib.Seq.{drop-drop, drop-append-seam, take-append-seam, take-at, length-take-le}
+use lib.Dec.{ltb, leb}
+use lib.ListN.{length, take, drop, length-append, length-drop}
+use lib.Seq.{drop-drop, drop-append-seam, take-at, length-take-le}
 use borrow.Author.Tests.{eq-eqb, leb-true}
-use Rattle.ground.specs.Meanings.Sheet.{Outcome, got, refused, Reading, andThen, field, checked, byte, two, Pair, many, count, carrier, riser, Rule, allowedPair, ruleThat, rule, swap, nothingMore, Sheet, jobSheet, listedIn, allowedBy, after, before, allNew, keepsLists, keepsRules, most-carriers, most-risers, most-rules, most-pairs, most-swaps, Accepted}
-use Rattle.ground.specs.Laws.Reading.{and-left, andThen-got, byte-in, two-in, field-in, checked-got, checked-passed}
+use Rattle.ground.specs.Meanings.Sheet.{got, refused, Reading, andThen, field, checked, byte, two, Pair, many, count, carrier, riser, Rule, allowedPair, ruleThat, rule, swap, nothingMore, Sheet, jobSheet, listedIn, allowedBy, after, before, allNew, keepsLists, keepsRules, most-carriers, most-risers, most-rules, most-pairs, most-swaps}
+use Rattle.ground.specs.Laws.Reading.{and-left, andThen-got, field-in, checked-got, checked-passed}
 use Rattle.ground.specs.Laws.Spelling.{each-written, writeList, writePair, writeRule, written, tail-swaps, tail-rules, tail-risers, got-same, many-count, singles, one-spelling}
 use Rattle.ground.specs.Laws.Sections.{whole, last, from-swaps, from-rules, from-risers}
 
