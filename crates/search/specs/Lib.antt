@@ -14,3 +14,4 @@ pub mod Answer
 pub mod Answering
 pub mod Finishing
 pub mod Trying
+pub mod Starting
