@@ -24,15 +24,21 @@ pub record Undone (k : ℕ) (p out : List ℕ) (i : ℕ) : Type 0 where
   pub size : length out ≡ k
   pub places : (c : ℕ) → c < k → at out c ≡ i + find (drop i p) c
 
-module _ (k : ℕ) (p : List ℕ) where
-  pub undone-start : (n : ℕ) (out : List ℕ) → length p ≡ n → length out ≡ k → ((c : ℕ) → c < k → at out c ≡ n) → Undone k p out n
-  undone-start n out w e h = record {
-    within = omega arith;
-    size = e;
-    places = λ c l. h c l ∙ rw (drop-of-length-le p (le-of-eq w)) (omega arith);
-  }
+pub undone-start : (k : ℕ) (p : List ℕ) (n : ℕ) (out : List ℕ) → length p ≡ n → length out ≡ k → ((c : ℕ) → c < k → at out c ≡ n) → Undone k p out n
+undone-start k p n out w e h = record {
+  within = omega arith;
+  size = e;
+  places = λ c l. h c l ∙ rw (drop-of-length-le p (le-of-eq w)) (omega arith);
+}
 
-  module _ (out : List ℕ) (n i : ℕ) (s : Undone k p out n) (next : n ≡ suc i) where
+module _ {k : ℕ} {p out : List ℕ} {n : ℕ} (s : Undone k p out n) where
+  pub undone-inverse : n ≡ 0 → out ≡ inv k p
+  unfolding inv
+  undone-inverse e =
+      ext-getD 0 out (tab k (find p)) (s .size ∙ sym (length-tab k (find p)))
+      (λ c l. let h : c < k = omega (arith, s .size) in rw e at (s .places c h) ∙ omega arith ∙ sym (at-tab k (find p) c h))
+
+  module _ (i : ℕ) (next : n ≡ suc i) where
     abbrev Place : List ℕ → ℕ → Type 0
     Place o c = at o c ≡ i + find (drop i p) c
 
@@ -61,9 +67,3 @@ module _ (k : ℕ) (p : List ℕ) where
 
     pub undone-left : k ≤ at p i → Undone k p out i
     undone-left h = record { within = omega (arith, here); size = s .size; places = λ c l. passed c l (λ (e : c ≡ at p i). omega arith) }
-
-  pub undone-inverse : (out : List ℕ) (n : ℕ) → Undone k p out n → n ≡ 0 → out ≡ inv k p
-  unfolding inv
-  undone-inverse out n s e =
-      ext-getD 0 out (tab k (find p)) (s .size ∙ sym (length-tab k (find p)))
-      (λ c l. let h : c < k = omega (arith, s .size) in rw e at (s .places c h) ∙ omega arith ∙ sym (at-tab k (find p) c h))

@@ -3,7 +3,12 @@
 // A swap has 15 entries whatever the sheet's number of carriers; carriers that the sheet does not have stay. No function
 // asks anything of its caller: each promise holds for all bytes, and is the definition that it names.
 ghost use mathlib.Core.Path.{_≡_};
-ghost use Rattle.ground.specs.Meanings.Group.{at, mul, identity};
+ghost use mathlib.Core.Bool.{_&&_};
+ghost use mathlib.Core.List.{[]};
+ghost use lib.Dec.{leb};
+ghost use lib.ListN.{length};
+ghost use Rattle.ground.specs.Meanings.Group.{at, mul, identity, move};
+ghost use Rattle.ground.specs.Meanings.Sheet.{allNew};
 ghost use Rattle.ground.specs.Laws.Permutations.{inv};
 
 // A swap: entry c is the carrier that carrier c goes to.
@@ -60,4 +65,35 @@ pub fn inverse(p: [u8; 15]) -> [u8; 15]
         }
     }
     r
+}
+
+// Applies g to each carrier of the row.
+pub fn move_row(g: [u8; 15], row: &mut [u8])
+    ensures { λ _. ⌜ now (row .exit) ≡ move g (now (row .entry)) ⌝ }
+{
+    for i in 0..row.len() {
+        row[i] = taken(g, row[i]);
+    }
+}
+
+// Whether the bytes are a permutation of 0 to k − 1, for their number k, at most 15.
+pub fn is_permutation(bytes: &[u8]) -> bool
+    ensures { λ r. ⌜ r ≡ (leb (length (now (bytes .entry))) 15 && allNew (length (now (bytes .entry))) [] (now (bytes .entry))) ⌝ }
+{
+    let k = bytes.len();
+    if Swap::WIDTH < k {
+        return false;
+    }
+    let mut marks = [0u8; 15];
+    for i in 0..bytes.len() {
+        let c = bytes[i] as usize;
+        if k <= c {
+            return false;
+        }
+        if marks[c] == 1 {
+            return false;
+        }
+        marks[c] = 1;
+    }
+    true
 }

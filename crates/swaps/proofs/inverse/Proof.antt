@@ -36,16 +36,16 @@ loop-less : tie.Need-loop-less Inv-loop μ-loop
 loop-less c = omega arith
 
 loop-again : tie.Need-loop-again Inv-loop μ-loop
-loop-again c = undone-stored _ _ _ _ _ (c .before .before .loop .inv) (omega arith) (c .if1 .taken)
+loop-again c = undone-stored (c .before .before .loop .inv) _ (omega arith) (c .if1 .taken)
 
 loop-less-2 : tie.Need-loop-less-2 Inv-loop μ-loop
 loop-less-2 c = omega arith
 
 loop-again-2 : tie.Need-loop-again-2 Inv-loop μ-loop
-loop-again-2 c = undone-left _ _ _ _ _ (c .before .before .loop .inv) (omega arith) (c .if1 .left)
+loop-again-2 c = undone-left (c .before .before .loop .inv) _ (omega arith) (c .if1 .left)
 
 returns : tie.Need-returns Inv-loop μ-loop
-returns c = undone-inverse _ _ _ _ (c .before .loop .inv) (omega arith)
+returns c = undone-inverse (c .before .loop .inv) (omega arith)
 
 pub inverse-spec : {M : Type 1} → statement M
 inverse-spec =
