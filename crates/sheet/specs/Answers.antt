@@ -1,0 +1,67 @@
+-- What an answer of the code tells: each of its enums stands for an outcome of a reading.
+--
+--   tellNumber, tellSection   the answer for an outcome: what was read and the place after it, or number and place of a refusal
+--   Answers tell o r P        r is the answer for the outcome o, and what was got has P
+--   numberFrom least bound q  a byte from `least` on and under `bound`; q where it is not
+--
+-- An answer settles its outcome: the laws `..-got` and `..-refused` say which one it was.
+-- Assumes nothing.
+use mathlib.Core.Path.{_≡_, refl, sym, ap, _∙_, subst}
+use mathlib.Core.Bool.{_&&_}
+use Prim.Native.Nat.{ℕ}
+use native.Mathlib.Omega.{arith}
+use lib.Dec.{ltb, leb}
+use Rattle.ground.specs.Meanings.Sheet.{Outcome, got, refused, Reading, checked, byte}
+use Rattle.sheet.specs.declared.Section.{Section}
+use Rattle.sheet.specs.declared.Number.{Number}
+
+-- ---- the answers
+
+abbrev pub tellNumber : Outcome ℕ → Number
+tellNumber (got c next) = Number.Read c next
+tellNumber (refused q p) = Number.Refused q p
+
+abbrev pub tellSection : {A : Type 0} → Outcome A → Section
+tellSection (got x next) = Section.Read next
+tellSection (refused q p) = Section.Refused q p
+
+pub record Answers {A B : Type 0} (tell : Outcome A → B) (o : Outcome A) (r : B) (P : A → Type 0) : Type 0 where
+  pub told : r ≡ tell o
+  pub leaves : (x : A) (p : ℕ) → o ≡ got x p → P x
+
+abbrev pub numberFrom : ℕ → ℕ → ℕ → Reading ℕ
+numberFrom least bound q = checked q (λ c. leb least c && ltb c bound) byte
+
+-- ---- answers made
+
+module _ {A B : Type 0} (tell : Outcome A → B) {o : Outcome A} {P : A → Type 0} where
+  pub answer-got : {x : A} {p : ℕ} → o ≡ got x p → P x → Answers tell o (tell (got x p)) P
+  answer-got {x} {p} e h = record { told = ap tell (sym e); leaves = λ y r f. let z : x ≡ y = cc in subst P z h }
+
+  pub answer-refused : {q p : ℕ} → o ≡ refused q p → Answers tell o (tell (refused q p)) P
+  answer-refused {q} {p} e = record { told = ap tell (sym e); leaves = λ y r f. let z : _≡_ {A = Outcome A} (got y r) (refused q p) = sym f ∙ e in absurd (let b : _≡_ {A = ℕ} 0 1 = cc in omega arith) }
+
+-- ---- answers taken
+
+pub number-got : (o : Outcome ℕ) {c next : ℕ} → Number.Read c next ≡ tellNumber o → o ≡ got c next
+number-got (got x p) h = cc
+number-got (refused q p) h = absurd (let b : _≡_ {A = ℕ} 0 1 = cc in omega arith)
+
+pub number-refused : (o : Outcome ℕ) {q p : ℕ} → Number.Refused q p ≡ tellNumber o → o ≡ refused q p
+number-refused (got x n) h = absurd (let b : _≡_ {A = ℕ} 0 1 = cc in omega arith)
+number-refused (refused q p) h = cc
+
+module _ {A : Type 0} {o : Outcome A} {P : A → Type 0} {r : Section} (a : Answers tellSection o r P) {p : ℕ} where
+  pub section-got : r ≡ Section.Read p → (x : A) × (o ≡ got x p) × P x
+  section-got e = go o (sym (a .told) ∙ e) (a .leaves)
+    where
+      go : (o : Outcome A) → tellSection o ≡ Section.Read p → ((x : A) (p : ℕ) → o ≡ got x p → P x) → (x : A) × (o ≡ got x p) × P x
+      go (got x n) h f = (x, cc, f x n refl)
+      go (refused a b) h f = absurd (let b : _≡_ {A = ℕ} 0 1 = cc in omega arith)
+
+  pub section-refused : {q : ℕ} → r ≡ Section.Refused q p → o ≡ refused q p
+  section-refused {q} e = go o (sym (a .told) ∙ e)
+    where
+      go : (o : Outcome A) → tellSection o ≡ Section.Refused q p → o ≡ refused q p
+      go (got x n) h = absurd (let b : _≡_ {A = ℕ} 0 1 = cc in omega arith)
+      go (refused a b) h = cc
