@@ -1,25 +1,36 @@
 -- What an answer of the code tells: each of its enums stands for an outcome of a reading.
 --
---   tellNumber, tellSection   the answer for an outcome: what was read and the place after it, or number and place of a refusal
---   Answers tell o r P        r is the answer for the outcome o, and what was got has P
---   numberFrom least bound q  a byte from `least` on and under `bound`; q where it is not
+--   tellNumber, tellTwo    the answer for an outcome: what was read and the place after it, or number and place of the refusal
+--   tellRule               the same for a rule, of which the two risers are told
+--   tellSection            the same for a whole section, of which only the place after it is told
+--   Answers tell o r P     r is the answer for the outcome o, and what was got has P
 --
 -- An answer settles its outcome: the laws `..-got` and `..-refused` say which one it was.
 -- Assumes nothing.
-use mathlib.Core.Path.{_≡_, refl, sym, ap, _∙_, subst}
-use mathlib.Core.Bool.{_&&_}
+use mathlib.Core.Path.{_≡_, refl, sym, ap, ap₂, _∙_, subst}
 use Prim.Native.Nat.{ℕ}
 use native.Mathlib.Omega.{arith}
-use lib.Dec.{ltb, leb}
-use Rattle.ground.specs.Meanings.Sheet.{Outcome, got, refused, Reading, checked, byte}
+use Rattle.ground.specs.Meanings.Sheet.{Outcome, got, refused, Pair, Rule}
 use Rattle.sheet.specs.declared.Section.{Section}
 use Rattle.sheet.specs.declared.Number.{Number}
+use Rattle.sheet.specs.declared.Two.{Two}
+
+abbrev pub pair : ℕ → ℕ → Pair
+pair u v = record { left = u; right = v }
 
 -- ---- the answers
 
 abbrev pub tellNumber : Outcome ℕ → Number
 tellNumber (got c next) = Number.Read c next
 tellNumber (refused q p) = Number.Refused q p
+
+abbrev pub tellTwo : Outcome Pair → Two
+tellTwo (got x next) = Two.Read (x .left) (x .right) next
+tellTwo (refused q p) = Two.Refused q p
+
+abbrev pub tellRule : Outcome Rule → Two
+tellRule (got x next) = Two.Read (x .risers .left) (x .risers .right) next
+tellRule (refused q p) = Two.Refused q p
 
 abbrev pub tellSection : {A : Type 0} → Outcome A → Section
 tellSection (got x next) = Section.Read next
@@ -28,9 +39,6 @@ tellSection (refused q p) = Section.Refused q p
 pub record Answers {A B : Type 0} (tell : Outcome A → B) (o : Outcome A) (r : B) (P : A → Type 0) : Type 0 where
   pub told : r ≡ tell o
   pub leaves : (x : A) (p : ℕ) → o ≡ got x p → P x
-
-abbrev pub numberFrom : ℕ → ℕ → ℕ → Reading ℕ
-numberFrom least bound q = checked q (λ c. leb least c && ltb c bound) byte
 
 -- ---- answers made
 
@@ -50,6 +58,32 @@ number-got (refused q p) h = absurd (let b : _≡_ {A = ℕ} 0 1 = cc in omega a
 pub number-refused : (o : Outcome ℕ) {q p : ℕ} → Number.Refused q p ≡ tellNumber o → o ≡ refused q p
 number-refused (got x n) h = absurd (let b : _≡_ {A = ℕ} 0 1 = cc in omega arith)
 number-refused (refused q p) h = cc
+
+pub two-got : (o : Outcome Pair) {u v next : ℕ} → Two.Read u v next ≡ tellTwo o → o ≡ got (pair u v) next
+two-got (got x p) {u} {v} {next} h =
+    let e : pair (x .left) (x .right) ≡ pair u v = cc in
+    let n : p ≡ next = cc in
+    ap₂ got e n
+two-got (refused q p) h = absurd (let b : _≡_ {A = ℕ} 0 1 = cc in omega arith)
+
+pub two-refused : (o : Outcome Pair) {q p : ℕ} → Two.Refused q p ≡ tellTwo o → o ≡ refused q p
+two-refused (got x n) h = absurd (let b : _≡_ {A = ℕ} 0 1 = cc in omega arith)
+two-refused (refused q p) h = cc
+
+module _ {o : Outcome Rule} {P : Rule → Type 0} {r : Two} (a : Answers tellRule o r P) {p : ℕ} where
+  pub rule-got : {u v : ℕ} → r ≡ Two.Read u v p → (x : Rule) × (o ≡ got x p) × P x × (x .risers ≡ pair u v)
+  rule-got {u} {v} e = go o (sym (a .told) ∙ e) (a .leaves)
+    where
+      go : (o : Outcome Rule) → tellRule o ≡ Two.Read u v p → ((x : Rule) (p : ℕ) → o ≡ got x p → P x) → (x : Rule) × (o ≡ got x p) × P x × (x .risers ≡ pair u v)
+      go (got x n) h f = (x, cc, f x n refl, (let d : pair (x .risers .left) (x .risers .right) ≡ pair u v = cc in d))
+      go (refused a b) h f = absurd (let b : _≡_ {A = ℕ} 0 1 = cc in omega arith)
+
+  pub rule-refused : {q : ℕ} → r ≡ Two.Refused q p → o ≡ refused q p
+  rule-refused {q} e = go o (sym (a .told) ∙ e)
+    where
+      go : (o : Outcome Rule) → tellRule o ≡ Two.Refused q p → o ≡ refused q p
+      go (got x n) h = absurd (let b : _≡_ {A = ℕ} 0 1 = cc in omega arith)
+      go (refused a b) h = cc
 
 module _ {A : Type 0} {o : Outcome A} {P : A → Type 0} {r : Section} (a : Answers tellSection o r P) {p : ℕ} where
   pub section-got : r ≡ Section.Read p → (x : A) × (o ≡ got x p) × P x

@@ -19,7 +19,8 @@ use Rattle.ground.specs.Laws.Reading.{byte-in, byte-out, checked-got, checked-b
 use Rattle.sheet.specs.declared.Section.{Section}
 use Rattle.sheet.specs.declared.Number.{Number}
 use Rattle.sheet.specs.Tables.{putCarrier, markList, markLists}
-use Rattle.sheet.specs.Answers.{Answers, tellNumber, tellSection, numberFrom, answer-refused, number-got, number-refused, section-got, section-refused}
+use Rattle.sheet.specs.Least.{numberFrom}
+use Rattle.sheet.specs.Answers.{Answers, tellNumber, tellSection, answer-refused, number-got, number-refused, section-got, section-refused}
 use Rattle.sheet.specs.Fillings.{Filling, filling-starts, filling-more, filling-refused, filling-ends}
 
 -- ---- one number

@@ -21,8 +21,8 @@ returns-2 c = number-low _ _ _ _ _ (c .before .before .if1 .left) (c .if2 .taken
 returns-3 : tie.Need-returns-3
 returns-3 c = number-high _ _ _ _ _ (c .before .before .before .if1 .left) (c .before .if2 .left) (c .if3 .taken)
 
-add-t7 : tie.Need-add-t7
-add-t7 c = search needs
+add-next : tie.Need-add-next
+add-next c = search needs
 
 returns-4 : tie.Need-returns-4
 returns-4 c = number-is _ _ _ _ _ (c .before .before .before .if1 .left) (c .before .if2 .left) (c .if3 .left)
@@ -30,4 +30,4 @@ returns-4 c = number-is _ _ _ _ _ (c .before .before .before .if1 .left) (c .bef
 pub number-at-spec : {M : Type 1} → statement M
 number-at-spec =
     tie.close
-    (tie.spec returns shared-slice-read-value cast-value returns-2 returns-3 add-t7 returns-4)
+    (tie.spec returns shared-slice-read-value cast-value returns-2 returns-3 add-next returns-4)
