@@ -6,9 +6,11 @@
 --   Fillings   a loop that reads items and enters each into a table
 --   Risers     the risers' section
 --   Rules      the rules' section
+--   Tests      the tests of a swap
 pub mod Tables
 pub mod Least
 pub mod Answers
 pub mod Fillings
 pub mod Risers
 pub mod Rules
+pub mod Tests
