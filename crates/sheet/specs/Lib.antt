@@ -7,6 +7,7 @@
 --   Risers     the risers' section
 --   Rules      the rules' section
 --   Tests      the tests of a swap
+--   Swaps      the swaps' section
 pub mod Tables
 pub mod Least
 pub mod Answers
@@ -14,3 +15,4 @@ pub mod Fillings
 pub mod Risers
 pub mod Rules
 pub mod Tests
+pub mod Swaps

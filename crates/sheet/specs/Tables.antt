@@ -10,14 +10,16 @@
 --   ruleTables T E     the two tables that rules are entered into: T the pairs, E the rules by their risers
 --   putRule t q x      rule q, x, entered: its pairs, and q + 1 at b · 12 + a, where a and b are its risers
 --   markRules t l      the same for all rules, rule 0 first
+--   padded w g         the swap g at width w: the carriers that it does not speak of stay
+--   putSwap t i g      the table of swaps t with swap i, g, entered at width 15
 --
 -- These are definitions: nothing is assumed or proved here.
 use mathlib.Core.Bool.{Bool, _&&_}
-use mathlib.Core.List.{List, [], _∷_}
+use mathlib.Core.List.{List, [], _∷_, _++_}
 use Prim.Native.Nat.{ℕ, suc, _+_, _*_}
 use lib.Dec.{ltb, eqb}
-use lib.ListN.{set}
-use Rattle.ground.specs.Meanings.Group.{at}
+use lib.ListN.{length, drop, set}
+use Rattle.ground.specs.Meanings.Group.{at, identity}
 use Rattle.ground.specs.Meanings.Sheet.{Pair, Rule, most-carriers, most-risers, most-rules, most-pairs}
 
 unfoldable pub putAll : {S A : Type 0} → (S → ℕ → A → S) → S → ℕ → List A → S
@@ -64,3 +66,11 @@ putRule t q x = ruleTables (markPairs (t .pairs) q (x .pairs)) (set (t .ends) (x
 
 abbrev pub markRules : RuleTables → List Rule → RuleTables
 markRules t l = putAll putRule t 0 l
+
+-- ---- the swaps
+
+unfoldable pub padded : ℕ → List ℕ → List ℕ
+padded w g = g ++ drop (length g) (identity w)
+
+unfoldable pub putSwap : List (List ℕ) → ℕ → List ℕ → List (List ℕ)
+putSwap t i g = set t i (padded most-carriers g)
