@@ -2,14 +2,17 @@
 --
 --   tellNumber, tellTwo    the answer for an outcome: what was read and the place after it, or number and place of the refusal
 --   tellRule               the same for a rule, of which the two risers are told
---   tellSection            the same for a whole section, of which only the place after it is told
+--   tellSection            the same for a run of items, of which only the place after it is told
+--   tellCount              the same for a section, of which the number of items is told
 --   Answers tell o r P     r is the answer for the outcome o, and what was got has P
 --
 -- An answer settles its outcome: the laws `..-got` and `..-refused` say which one it was.
 -- Assumes nothing.
 use mathlib.Core.Path.{_≡_, refl, sym, ap, ap₂, _∙_, subst}
+use mathlib.Core.List.{List}
 use Prim.Native.Nat.{ℕ}
 use native.Mathlib.Omega.{arith}
+use lib.ListN.{length}
 use Rattle.ground.specs.Meanings.Sheet.{Outcome, got, refused, Pair, Rule}
 use Rattle.sheet.specs.declared.Section.{Section}
 use Rattle.sheet.specs.declared.Number.{Number}
@@ -35,6 +38,10 @@ tellRule (refused q p) = Two.Refused q p
 abbrev pub tellSection : {A : Type 0} → Outcome A → Section
 tellSection (got x next) = Section.Read next
 tellSection (refused q p) = Section.Refused q p
+
+abbrev pub tellCount : {A : Type 0} → Outcome (List A) → Number
+tellCount (got l next) = Number.Read (length l) next
+tellCount (refused q p) = Number.Refused q p
 
 pub record Answers {A B : Type 0} (tell : Outcome A → B) (o : Outcome A) (r : B) (P : A → Type 0) : Type 0 where
   pub told : r ≡ tell o
@@ -97,5 +104,20 @@ module _ {A : Type 0} {o : Outcome A} {P : A → Type 0} {r : Section} (a : Answ
   section-refused {q} e = go o (sym (a .told) ∙ e)
     where
       go : (o : Outcome A) → tellSection o ≡ Section.Refused q p → o ≡ refused q p
+      go (got x n) h = absurd (let b : _≡_ {A = ℕ} 0 1 = cc in omega arith)
+      go (refused a b) h = cc
+
+module _ {A : Type 0} {o : Outcome (List A)} {P : List A → Type 0} {r : Number} (a : Answers tellCount o r P) {p : ℕ} where
+  pub count-got : {n : ℕ} → r ≡ Number.Read n p → (l : List A) × (o ≡ got l p) × P l × (length l ≡ n)
+  count-got {n} e = go o (sym (a .told) ∙ e) (a .leaves)
+    where
+      go : (o : Outcome (List A)) → tellCount o ≡ Number.Read n p → ((x : List A) (p : ℕ) → o ≡ got x p → P x) → (l : List A) × (o ≡ got l p) × P l × (length l ≡ n)
+      go (got x w) h f = (x, cc, f x w refl, cc)
+      go (refused a b) h f = absurd (let b : _≡_ {A = ℕ} 0 1 = cc in omega arith)
+
+  pub count-refused : {q : ℕ} → r ≡ Number.Refused q p → o ≡ refused q p
+  count-refused {q} e = go o (sym (a .told) ∙ e)
+    where
+      go : (o : Outcome (List A)) → tellCount o ≡ Number.Refused q p → o ≡ refused q p
       go (got x n) h = absurd (let b : _≡_ {A = ℕ} 0 1 = cc in omega arith)
       go (refused a b) h = cc

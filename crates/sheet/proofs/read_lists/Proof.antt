@@ -1,11 +1,11 @@
--- `read_risers` answers what the definition says of all risers. The loop keeps: the first r lists are read, and the table has them.
+-- `read_lists` answers what the definition says of all risers. The loop keeps: the first r lists are read, and the table has them.
 -- Assumes nothing.
 use Rattle.sheet.specs.Risers.{RisersSoFar, risers-start, risers-more, risers-refused, risers-end}
 use Prim.Native.Nat.{_-_}
 use native.Mathlib.Omega.{arith}
 use borrow.Author.Needs.{needs}
-use Rattle.sheet.proofs.read_risers.Statement.{statement}
-use Rattle.sheet.proofs.read_risers.Tie as tie
+use Rattle.sheet.proofs.read_lists.Statement.{statement}
+use Rattle.sheet.proofs.read_lists.Tie as tie
 
 abbrev Inv-loop : tie.InvT-loop
 Inv-loop s from k n member₀ at₀ r₀ member at r = RisersSoFar s from k n member₀ member at r
@@ -40,8 +40,8 @@ loop-again c = risers-more _ _ _ _ _ _ _ _ (c .before .before .before .before .b
 returns-2 : tie.Need-returns-2 Inv-loop μ-loop
 returns-2 c = risers-end _ _ _ _ _ _ _ _ (c .before .loop .inv) (c .loop-test .left)
 
-pub read-risers-spec : {M : Type 1} → statement M
-read-risers-spec =
+pub read-lists-spec : {M : Type 1} → statement M
+read-lists-spec =
     tie.close
     (tie.spec
     Inv-loop
