@@ -1,6 +1,10 @@
--- What folding keeps on its way along a row.
+-- What folding keeps on its way along a row, and what its promise means.
 --
---   Leading    the least carrier of an orbit, found over a transversal
---   Settling   a row that is settled carrier by carrier: held, first, and counted
+--   Leading       the least carrier of an orbit, found over a transversal
+--   Settling      a row that is settled carrier by carrier: held, first, and counted
+--   Carrying      a whole row folded, and what that is at the sheet's own width
+--   Consequences  what follows from the promise of folding
 pub mod Leading
 pub mod Settling
+pub mod Carrying
+pub mod Consequences
