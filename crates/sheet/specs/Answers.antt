@@ -4,6 +4,7 @@
 --   tellRule               the same for a rule, of which the two risers are told
 --   tellSection            the same for a run of items, of which only the place after it is told
 --   tellCount              the same for a section, of which the number of items is told
+--   tellSheet              the same for the whole sheet, of which the numbers of carriers, risers, rules and swaps are told
 --   Answers tell o r P     r is the answer for the outcome o, and what was got has P
 --
 -- An answer settles its outcome: the laws `..-got` and `..-refused` say which one it was.
@@ -13,10 +14,11 @@ use mathlib.Core.List.{List}
 use Prim.Native.Nat.{ℕ}
 use native.Mathlib.Omega.{arith}
 use lib.ListN.{length}
-use Rattle.ground.specs.Meanings.Sheet.{Outcome, got, refused, Pair, Rule}
+use Rattle.ground.specs.Meanings.Sheet.{Outcome, got, refused, Pair, Rule, Sheet}
 use Rattle.sheet.specs.declared.Section.{Section}
 use Rattle.sheet.specs.declared.Number.{Number}
 use Rattle.sheet.specs.declared.Two.{Two}
+use Rattle.sheet.specs.declared.Head.{Head}
 
 abbrev pub pair : ℕ → ℕ → Pair
 pair u v = record { left = u; right = v }
@@ -42,6 +44,10 @@ tellSection (refused q p) = Section.Refused q p
 abbrev pub tellCount : {A : Type 0} → Outcome (List A) → Number
 tellCount (got l next) = Number.Read (length l) next
 tellCount (refused q p) = Number.Refused q p
+
+abbrev pub tellSheet : Outcome Sheet → Head
+tellSheet (got X p) = Head.Accepted (X .carriers) (length (X .lists)) (length (X .rules)) (length (X .swaps))
+tellSheet (refused q p) = Head.Refused q p
 
 pub record Answers {A B : Type 0} (tell : Outcome A → B) (o : Outcome A) (r : B) (P : A → Type 0) : Type 0 where
   pub told : r ≡ tell o

@@ -18,3 +18,7 @@ pub mod Sections
 pub mod Rules
 pub mod Tests
 pub mod Swaps
+pub mod Serves
+pub mod Entries
+pub mod Ends
+pub mod Whole

@@ -3,7 +3,7 @@
 --   Beyond least done     a pair whose right is below 15 comes after those of `done` exactly if its key is `least` or more
 --   PairsSoFar ..         the loop over a rule's pairs
 --   RulesSoFar ..         the loop over the rules
---   risersOf l            the two risers of each rule of l
+--   riserPairs l          the two risers of each rule of l
 --
 -- Assumes nothing.
 use mathlib.Core.Path.{_≡_, refl, sym, ap, ap₂, _∙_, subst, fun-ext}
@@ -140,11 +140,11 @@ before-key y x h g = elim (decLt (y .left) (x .left)) [
   ])
 ]
 
-beyond-none : Beyond 0 []
+pub beyond-none : Beyond 0 []
 unfolding Beyond after
 beyond-none x h = sym (le-leb 0 (key x) (omega arith))
 
-beyond-more : (done : List Pair) (y : Pair) → y .right < most-carriers → Beyond (key y + 1) (done ++ (y ∷ []))
+pub beyond-more : (done : List Pair) (y : Pair) → y .right < most-carriers → Beyond (key y + 1) (done ++ (y ∷ []))
 unfolding Beyond
 beyond-more done y h x g = after-snoc before done y x ∙ before-key y x h g
 
@@ -227,23 +227,23 @@ rule-ordered n M least s p {P} {r} {u} {v} {next} a e =
 
 -- ---- all rules
 
-abbrev pub risersOf : List Rule → List Pair
-risersOf l = map (λ (x : Rule). x .risers) l
+abbrev pub riserPairs : List Rule → List Pair
+riserPairs l = map (λ (x : Rule). x .risers) l
 
-risers-snoc : (l : List Rule) (x : Rule) → risersOf (l ++ (x ∷ [])) ≡ risersOf l ++ (x .risers ∷ [])
+pub risers-snoc : (l : List Rule) (x : Rule) → riserPairs (l ++ (x ∷ [])) ≡ riserPairs l ++ (x .risers ∷ [])
 risers-snoc [] x = refl
 risers-snoc (y ∷ l) x = ap (λ (r : List Pair). y .risers ∷ r) (risers-snoc l x)
 
-rule-from : (n : ℕ) (M : List ℕ) (done : List Rule) (least : ℕ) (s : List ℕ) (p : ℕ) → n ≤ most-risers → Beyond least (risersOf done) → rule n (isListed M) done s p ≡ ruleFrom n (isListed M) least s p
+rule-from : (n : ℕ) (M : List ℕ) (done : List Rule) (least : ℕ) (s : List ℕ) (p : ℕ) → n ≤ most-risers → Beyond least (riserPairs done) → rule n (isListed M) done s p ≡ ruleFrom n (isListed M) least s p
 unfolding ordered ruleThat Beyond
 rule-from n M done least s p w h =
     ap (λ (t : Pair → Bool). andThen (checked 4 t two s p) (λ ab p′. andThen (count 0 most-pairs s p′) (λ m p″. andThen (many (allowedPair (isListed M (ab .left)) (isListed M (ab .right))) m [] s p″) (λ ps next. got (record { risers = ab; pairs = ps }) next))))
-    (fun-ext (λ x. same-test (ordered n x) (after before (risersOf done) x) (leb least (key x)) (λ (e : ordered n x ≡ true). h x (let k = ordered-right n (x .left) (x .right) e in omega arith))))
+    (fun-ext (λ x. same-test (ordered n x) (after before (riserPairs done) x) (leb least (key x)) (λ (e : ordered n x ≡ true). h x (let k = ordered-right n (x .left) (x .right) e in omega arith))))
 
 pub record RulesSoFar (s : List ℕ) (from n m : ℕ) (M T₀ E₀ T E : List ℕ) (p least i : ℕ) : Type 0 where
   pub done : List Rule
   pub filling : Filling (rule n (isListed M)) putRule m s from (ruleTables T₀ E₀) (ruleTables T E) p i done
-  pub lower : Beyond least (risersOf done)
+  pub lower : Beyond least (riserPairs done)
 
 module _ (s : List ℕ) (from n m : ℕ) (M T₀ E₀ : List ℕ) where
   pub rules-start : RulesSoFar s from n m M T₀ E₀ T₀ E₀ from 0 0
@@ -257,7 +257,7 @@ module _ (s : List ℕ) (from n m : ℕ) (M T₀ E₀ : List ℕ) where
         record {
           done = w .done ++ (z .0 ∷ []);
           filling = subst (λ (X : RuleTables). Filling (rule n (isListed M)) putRule m s from (ruleTables T₀ E₀) X next (i + 1) (w .done ++ (z .0 ∷ []))) (sym (z .2)) (filling-more (rule n (isListed M)) putRule m s from (ruleTables T₀ E₀) (w .filling) l (rule-from n M (w .done) least s p small (w .lower) ∙ z .1));
-          lower = rw (risers-snoc (w .done) (z .0), z .3) (beyond-more (risersOf (w .done)) (pair u v) (omega arith));
+          lower = rw (risers-snoc (w .done) (z .0), z .3) (beyond-more (riserPairs (w .done)) (pair u v) (omega arith));
         }
 
     pub rules-refused : {q g : ℕ} {P : List Rule → Type 0} → r ≡ Two.Refused q g → Answers tellSection (many (rule n (isListed M)) m [] s from) (Section.Refused q g) P

@@ -7,14 +7,14 @@
 -- Assumes nothing.
 use mathlib.Core.Path.{_≡_, refl, sym, ap, _∙_, subst}
 use mathlib.Core.List.{List, []}
-use Prim.Native.Nat.{ℕ, _+_, _≤_}
+use Prim.Native.Nat.{ℕ, _≤_}
 use native.Mathlib.Omega.{arith}
 use lib.ListN.{length}
-use Rattle.ground.specs.Meanings.Sheet.{Outcome, got, refused, Reading, andThen, count, many, yields, _>>=_}
+use Rattle.ground.specs.Meanings.Sheet.{Outcome, got, refused, Reading, andThen, count, many, _>>=_}
 use Rattle.ground.specs.Laws.Reading.{andThen-got, many-length}
 use Rattle.sheet.specs.declared.Section.{Section}
 use Rattle.sheet.specs.declared.Number.{Number}
-use Rattle.sheet.specs.Answers.{Answers, tellNumber, tellSection, tellCount, answer-got, answer-refused, number-got, number-refused, section-got, section-refused}
+use Rattle.sheet.specs.Answers.{Answers, tellNumber, tellSection, tellCount, answer-got, answer-refused, number-got, number-refused, section-got, section-refused, count-got}
 use Rattle.sheet.specs.Risers.{count-most}
 
 unfoldable pub section : {A : Type 0} → ℕ → ℕ → (List A → Reading A) → Reading (List A)
@@ -50,6 +50,9 @@ module _ {A : Type 0} (least most : ℕ) (one : List A → Reading A) (s : List 
       let h = many-length one s (z .0) [] (z .1) l next (z .3) in
       let m = count-most s p least most (ap tellNumber (sym (z .2))) in
       omega arith
+
+  pub section-few : {P : List A → Type 0} {r : Number} {n next : ℕ} → Answers tellCount (section least most one s p) r P → r ≡ Number.Read n next → n ≤ most
+  section-few a e = let g = count-got a e in let h = section-most (g .1) in let l = g .3 in omega arith
 
   -- what follows is told by the items
   pub section-then : {B : Type 0} (rest : ℕ → List A → ℕ → Outcome B) → andThen (count least most s p) (λ n first. andThen (many one n [] s first) (rest n)) ≡ andThen (section least most one s p) (λ l next. rest (length l) l next)

@@ -1,17 +1,11 @@
 -- `swaps_section` answers what the definition says of the swaps' section. It is the count, and then as many items.
 -- Assumes nothing.
 use borrow.Author.Needs.{needs}
-use mathlib.Core.Path.{refl, sym, ap, _∙_}
-use Prim.Native.Nat.{_-_, _+_}
-use native.Mathlib.Omega.{arith}
+use mathlib.Core.Path.{sym, _∙_}
 use Rattle.sheet.specs.Risers.{count-most}
 use Rattle.sheet.specs.Sections.{section-no-count, section-no-item, section-is}
 use Rattle.sheet.proofs.swaps_section.Statement.{statement}
 use Rattle.sheet.proofs.swaps_section.Tie as tie
-use Rattle.sheet.proofs.swaps_section.Reads as reads
-use Rattle.sheet.proofs.swaps_section.Lts as lts
-use Rattle.sheet.proofs.count_at.Reads as count-at-reads
-use Rattle.sheet.proofs.read_swaps.Reads as read-swaps-reads
 
 count-at-requires : tie.Need-count-at-requires
 count-at-requires c κs = search needs
