@@ -14,6 +14,7 @@
 --   Reading, Sections     what readings give, and the sections of a sheet
 --   Spelling, Valid       a sheet has one spelling, and is accepted exactly if it is valid
 --   Sheets                an accepted sheet, fact by fact; its group keeps rows, rules and plans
+--   Longest               no accepted sheet is longer than 30,214 bytes
 --   Choices, Images       all rows drawn from lists, all images of a row, all members, as lists
 pub mod Lists
 pub mod Enumerations
@@ -36,5 +37,6 @@ pub mod Sections
 pub mod Spelling
 pub mod Valid
 pub mod Sheets
+pub mod Longest
 pub mod Choices
 pub mod Images

@@ -9,10 +9,10 @@
 use mathlib.Core.Path.{_≡_, refl, sym, ap, subst, _∙_}
 use mathlib.Core.Logic.{_⊎_, inl, inr}
 use mathlib.Core.List.{List, [], _∷_, _++_, map, List·Memᴰ·head, List·Memᴰ·tail, List·Memᴰ·not-nil, List·Memᴰ·cases-cons, List·Memᴰ·append-cases, Memᴰ·map, Memᴰ·of-map, Memᴰ·cast, head-eq-of-cons-eq, tail-eq-of-cons-eq}
-use Prim.Native.Nat.{ℕ, zero, suc, _≤_, _<_}
-use native.Mathlib.Nat.{not-suc-le-zero}
+use Prim.Native.Nat.{ℕ, zero, suc, _*_, _^_, _≤_, _<_}
+use native.Mathlib.Nat.{not-suc-le-zero, le-of-eq, pow-zero, pow-succ', mul-le-mul}
 use native.Mathlib.Omega.{arith}
-use lib.ListN.{length, getD}
+use lib.ListN.{length, getD, length-append, length-map}
 use Rattle.ground.specs.Meanings.Exactly.{_∈_, Once, Enumerates}
 use Rattle.ground.specs.Meanings.Group.{at, _≼_}
 use Rattle.ground.specs.Meanings.Listing.{Ascending}
@@ -173,3 +173,17 @@ kept-ascend f r l a b (no n) = b
 pub filter-ascend : {P : List ℕ → Type 0} (f : (r : List ℕ) → Dec (P r)) (l : List (List ℕ)) → Ascending l → Ascending (filter f l)
 filter-ascend f [] a = tt
 filter-ascend f (r ∷ l) a = kept-ascend f r l (a .0) (filter-ascend f l (a .1)) (f r)
+
+-- ---- how many
+
+length-heads : (l : List ℕ) (R : List (List ℕ)) → length (heads l R) ≡ length l * length R
+length-heads [] R = omega arith
+length-heads (c ∷ l) R =
+    omega (arith, length-append (map (λ r. c ∷ r) R) (heads l R), length-map R (λ (r : List ℕ). c ∷ r), length-heads l R)
+
+-- at most w to the number of lists, where no list has more than w carriers
+pub choices-most : (w : ℕ) (ls : List (List ℕ)) → ((l : List ℕ) → l ∈ ls → length l ≤ w) → length (choices ls) ≤ w ^ length ls
+choices-most w [] f = le-of-eq (sym (pow-zero w))
+choices-most w (l ∷ ls) f =
+    rw (length-heads l (choices ls), pow-succ' w (length ls))
+    (mul-le-mul (f l (List·Memᴰ·head refl)) (choices-most w ls (λ m i. f m (List·Memᴰ·tail i))))

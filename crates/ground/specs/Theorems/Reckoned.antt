@@ -10,25 +10,27 @@ use mathlib.Core.Path.{_≡_, refl, sym, ap, subst}
 use mathlib.Core.Logic.{_⊎_, inl, inr}
 use mathlib.Core.Bool.{Bool, true, false, cond}
 use mathlib.Core.List.{List, [], _∷_, map, List·Memᴰ·head, List·Memᴰ·not-nil, Memᴰ·of-map}
-use Prim.Native.Nat.{ℕ, zero, suc, _<_}
+use Prim.Native.Nat.{ℕ, zero, suc, _^_, _≤_, _<_}
 use native.Mathlib.Decide.{ℕ-discrete, decLt}
+use native.Mathlib.Nat.{le-trans, le-of-eq, pow-le-pow-right}
 use native.Mathlib.Omega.{arith}
 use borrow.Author.Tests.{ltb-true, ltb-false}
 use lib.Dec.{ltb}
 use lib.ListN.{length}
 use Rattle.ground.specs.Meanings.Exactly.{_∈_, Enumerates, Counts}
-use Rattle.ground.specs.Meanings.Group.{at, move, First, _≼_}
-use Rattle.ground.specs.Meanings.Sheet.{Sheet, Rule, Outcome, got, refused, jobSheet, isIn, isPairIn, Accepted}
+use Rattle.ground.specs.Meanings.Group.{at, tab, move, First, _≼_}
+use Rattle.ground.specs.Meanings.Sheet.{most-carriers, most-risers, Sheet, Rule, Outcome, got, refused, jobSheet, isIn, isPairIn, Accepted}
 use Rattle.ground.specs.Meanings.Plans.{risers, list, Row, Allows, Keeps, Plan, ImageOn, Listable, Opened, ClassSize, OpenedIs, TotalIs}
 use Rattle.ground.specs.Meanings.Listing.{Line, rowsOf, sizesOf, Ascending, Listing, room, flat, over, filled, Left, left, ListsOn, beyond-allowance, beyond-room, listed, Lists}
 use Rattle.ground.specs.Meanings.Folding.{Whole, Fitting, Folded, folded, FoldsOn, not-whole, not-fitting, carried, Folds}
-use Rattle.ground.specs.Laws.Lists.{all-or}
-use Rattle.ground.specs.Laws.Enumerations.{enum-iff, enum-filter, filter, in-filter, filter-in}
+use Rattle.ground.specs.Laws.Lists.{all-or, length-tab}
+use Rattle.ground.specs.Laws.Enumerations.{pigeonhole, counts-same, enum-iff, enum-filter, filter, in-filter, filter-in}
+use Rattle.ground.specs.Laws.Permutations.{mem-range}
 use Rattle.ground.specs.Laws.Order.{three}
-use Rattle.ground.specs.Laws.Rows.{image-by, image-trans}
+use Rattle.ground.specs.Laws.Rows.{Below, image-by, image-trans}
 use Rattle.ground.specs.Laws.Classes.{first-exists}
 use Rattle.ground.specs.Laws.Sheets.{Sound, accepted-sound, Ascends, ascends-once, index-of, row-below, whole-row, isIn-mem, mem-isIn, isPairIn-mem, mem-isPairIn}
-use Rattle.ground.specs.Laws.Choices.{Drawn, Begun, choices, beginnings, choices-enum, beginnings-enum, choices-ascend, filter-ascend}
+use Rattle.ground.specs.Laws.Choices.{Drawn, Begun, choices, beginnings, choices-enum, beginnings-enum, choices-ascend, filter-ascend, choices-most}
 use Rattle.ground.specs.Laws.Images.{images, images-enum, members, members-enum}
 use Rattle.ground.specs.Theorems.Kinds.{whole-kinds}
 
@@ -153,6 +155,22 @@ module _ {X : Sheet} (Z : Sound X) where
   plans-enum =
       enum-iff (λ r t. plan-of r (t .0) (t .1)) (λ r p. (record { long = p .whole; from = p .row .listed }, p .keeps))
       (enum-filter (keeps? X) (choices-enum (X .lists) (λ l m. ascends-once l (once-lists l m))))
+
+  -- there are at most 15^12 plans
+  pub total-most : {n : ℕ} → TotalIs X n → n ≤ most-carriers ^ most-risers
+  unfolding plansOf
+  total-most {n} t =
+      let few = choices-most most-carriers (X .lists) (λ l m. short l m) in
+      let sub = pigeonhole (plansOf X) (choices (X .lists)) (plans-enum .once) (λ r m. filter-in (keeps? X) (choices (X .lists)) r m .0) in
+      let same : n ≡ length (plansOf X) = counts-same t (record { list = plansOf X; enumerates = plans-enum; number = refl }) in
+      le-trans (le-of-eq same) (le-trans sub (le-trans few (pow-le-pow-right (omega arith) (Z .few-risers))))
+    where
+      short : (l : List ℕ) → l ∈ X .lists → length l ≤ most-carriers
+      short l m =
+          let w = index-of [] m in
+          let b : Below (X .carriers) l = subst (Below (X .carriers)) (w .2) (Z .below (w .0)) in
+          let p = pigeonhole l (tab (X .carriers) (λ x. x)) (ascends-once l (once-lists l m)) (λ x i. mem-range (X .carriers) x (b x i)) in
+          omega (arith, length-tab (X .carriers) (λ x. x), Z .few-carriers)
 
   listable-enum : Enumerates (Listable X) (filter (leading? X) (plansOf X))
   listable-enum =

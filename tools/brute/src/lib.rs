@@ -1,0 +1,21 @@
+//! Document 01's meanings by brute force: every row, every product of the swaps, the least over all images.
+//!
+//!   sheet      the job sheet, its reader with refusals 1 to 9, and its writer
+//!   group      products of swaps, images of a row, membership
+//!   answer     what listing and folding answer and leave in the lent lists
+//!   line       questions and answers as lines of text
+//!   chance     seeded numbers
+//!   shapes     swaps, lists and rules of many shapes, closed under the swaps
+//!   damage     sheets cut, changed and extended
+//!   edges      sheets and questions at the limits
+//!   questions  the seeded run of questions
+
+pub mod answer;
+pub mod chance;
+pub mod damage;
+pub mod edges;
+pub mod group;
+pub mod line;
+pub mod questions;
+pub mod shapes;
+pub mod sheet;
