@@ -13,9 +13,6 @@ returns c = two-short _ _ (omega arith)
 add-second : tie.Need-add-second
 add-second c = search needs
 
-returns-2 : tie.Need-returns-2
-returns-2 c = two-short _ _ (c .if2 .taken)
-
 shared-slice-read-left : tie.Need-shared-slice-read-left
 shared-slice-read-left c = search needs
 
@@ -31,6 +28,9 @@ cast-right c = omega (arith, c .shared-slice-known2 .given (c .before .before .b
 add-next : tie.Need-add-next
 add-next c = search needs
 
+returns-2 : tie.Need-returns-2
+returns-2 c = two-short _ _ (c .if2 .taken)
+
 returns-3 : tie.Need-returns-3
 returns-3 c = two-is _ _ (c .before .before .if2 .left)
 
@@ -40,10 +40,10 @@ two-at-spec =
     (tie.spec
     returns
     add-second
-    returns-2
     shared-slice-read-left
     cast-left
     shared-slice-read-right
     cast-right
     add-next
+    returns-2
     returns-3)
