@@ -22,3 +22,4 @@ pub mod Serves
 pub mod Entries
 pub mod Ends
 pub mod Whole
+pub mod Callers
