@@ -31,7 +31,7 @@ pub record AcceptedAs (s : List ℕ) (k n m c : ℕ) (member allowed ends : List
   pub carriers : sheet .carriers ≡ k
   pub risers : length (sheet .lists) ≡ n
   pub rules : length (sheet .rules) ≡ m
-  pub number : length (sheet .swaps) ≡ c
+  pub swaps-number : length (sheet .swaps) ≡ c
   pub serves : Serves sheet member allowed ends swaps
 
 module _ {s : List ℕ} {r : Head} {member allowed ends : List ℕ} {swaps : List (List ℕ)} (a : Reads s 0 r member allowed ends swaps) where
@@ -39,7 +39,7 @@ module _ {s : List ℕ} {r : Head} {member allowed ends : List ℕ} {swaps : Lis
   accepted-as {k} {n} {m} {c} e = go (jobSheet s 0) refl (sym (a .told) ∙ e)
     where
       go : (o : Outcome Sheet) → jobSheet s 0 ≡ o → tellSheet o ≡ Head.Accepted k n m c → AcceptedAs s k n m c member allowed ends swaps
-      go (got X p) f h = record { sheet = X; accepted = record { end = p; read = f }; carriers = cc; risers = cc; rules = cc; number = cc; serves = a .serves X p f }
+      go (got X p) f h = record { sheet = X; accepted = record { end = p; read = f }; carriers = cc; risers = cc; rules = cc; swaps-number = cc; serves = a .serves X p f }
       go (refused q w) f h = absurd (let b : _≡_ {A = ℕ} 0 1 = cc in omega arith)
 
   pub refused-as : {q w : ℕ} → r ≡ Head.Refused q w → Refused s q w × Blank member allowed ends swaps
