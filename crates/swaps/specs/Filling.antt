@@ -3,7 +3,7 @@
 --   Filled f start out i   out has the values of f at the places below i, and what start had from i on
 --
 -- The list is filled at no place to begin with, each turn fills one more, and a list that is filled at every place is the
--- table of f (`filled-table`). A table of what f makes of a list's entries is the list with f applied to each (`table-map`).
+-- table of f (`filled-table`): the identity, a product, or a row moved, by what f is.
 -- Assumes nothing.
 use mathlib.Core.Path.{_≡_, refl, sym, ap, _∙_}
 use mathlib.Core.List.{List, [], _∷_, map}
@@ -11,7 +11,7 @@ use Prim.Native.Nat.{ℕ, _+_, _≤_, _<_}
 use native.Mathlib.Omega.{arith}
 use lib.ListN.{length, set, length-set}
 use lib.Seq.{ext-getD, getD-set-other}
-use Rattle.ground.specs.Meanings.Group.{at, tab}
+use Rattle.ground.specs.Meanings.Group.{at, tab, mul, move}
 use Rattle.ground.specs.Laws.Lists.{length-tab, at-tab, fill-more}
 
 pub record Filled (f : ℕ → ℕ) (start out : List ℕ) (i : ℕ) : Type 0 where
@@ -20,7 +20,7 @@ pub record Filled (f : ℕ → ℕ) (start out : List ℕ) (i : ℕ) : Type 0 wh
   pub done : (j : ℕ) → j < i → at out j ≡ f j
   pub rest : (j : ℕ) → i ≤ j → at out j ≡ at start j
 
-pub table-map : (f : ℕ → ℕ) (l : List ℕ) → tab (length l) (λ j. f (at l j)) ≡ map f l
+table-map : (f : ℕ → ℕ) (l : List ℕ) → tab (length l) (λ j. f (at l j)) ≡ map f l
 table-map f [] = refl
 table-map f (a ∷ l) = ap (λ (m : List ℕ). f a ∷ m) (table-map f l)
 
@@ -42,3 +42,10 @@ module _ {f : ℕ → ℕ} {start out : List ℕ} {i : ℕ} (s : Filled f start 
   filled-table h =
       ext-getD 0 out (tab (length start) f) (s .size ∙ sym (length-tab (length start) f))
       (λ j l. s .done j (omega (arith, s .size)) ∙ sym (at-tab (length start) f j (omega (arith, s .size))))
+
+pub filled-mul : (p q : List ℕ) {start out : List ℕ} {i : ℕ} → Filled (λ c. at q (at p c)) start out i → length start ≤ i → length p ≡ length start → out ≡ mul p q
+unfolding mul
+filled-mul p q s h e = filled-table s h ∙ rw e at (table-map (at q) p)
+
+pub filled-move : (g : List ℕ) {row out : List ℕ} {i : ℕ} → Filled (λ j. at g (at row j)) row out i → length row ≤ i → out ≡ move g row
+filled-move g {row} s h = filled-table s h ∙ table-map (at g) row

@@ -85,7 +85,7 @@ pub fn is_permutation(bytes: &[u8]) -> bool
         return false;
     }
     let mut marks = [0u8; 15];
-    for i in 0..k {
+    for i in 0..bytes.len() {
         let c = bytes[i] as usize;
         if k <= c {
             return false;

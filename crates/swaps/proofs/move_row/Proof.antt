@@ -6,7 +6,7 @@ use native.Mathlib.Nat.{le-refl}
 use native.Mathlib.Omega.{arith}
 use lib.ListN.{length}
 use Rattle.ground.specs.Meanings.Group.{at}
-use Rattle.swaps.specs.Filling.{Filled, filled-start, filled-more, filled-table, table-map}
+use Rattle.swaps.specs.Filling.{Filled, filled-start, filled-more, filled-move}
 use Rattle.swaps.proofs.move_row.Statement.{statement}
 use Rattle.swaps.proofs.move_row.Tie as tie
 
@@ -37,16 +37,14 @@ loop-less c = omega arith
 loop-again : tie.Need-loop-again Inv-loop μ-loop
 loop-again c =
     let s = c .before .before .before .loop .inv in
-    filled-more s (c .before .before .loop-test .taken) _
+    filled-more s (omega arith) _
     (c .taken .ensures ∙ ap (at (c .before .before .before .before .before .args .g)) (s .rest _ (le-refl _)))
 
 same-length : tie.Need-same-length Inv-loop μ-loop
 same-length c = c .before .loop .inv .size
 
 returns : tie.Need-returns Inv-loop μ-loop
-returns c =
-    filled-table (c .before .loop .inv) (c .loop-test .left)
-    ∙ table-map (at (c .before .before .before .args .g)) (c .before .before .before .args .row .now)
+returns c = filled-move (c .before .before .before .args .g) (c .before .loop .inv) (omega arith)
 
 pub move-row-spec : {M : Type 1} → statement M
 move-row-spec =

@@ -1,11 +1,10 @@
 -- `product` gives p and then q. The loop fills the table of where q takes p's entries, and that table is p with q applied
 -- to each entry.
-use mathlib.Core.Path.{_≡_, _∙_}
 use Prim.Native.Nat.{ℕ, _-_}
 use native.Mathlib.Omega.{arith}
-use lib.ListN.{length, replicate}
-use Rattle.ground.specs.Meanings.Group.{at, mul}
-use Rattle.swaps.specs.Filling.{Filled, filled-start, filled-more, filled-table, table-map}
+use lib.ListN.{replicate}
+use Rattle.ground.specs.Meanings.Group.{at}
+use Rattle.swaps.specs.Filling.{Filled, filled-start, filled-more, filled-mul}
 use Rattle.swaps.proofs.product.Statement.{statement}
 use Rattle.swaps.proofs.product.Tie as tie
 
@@ -34,17 +33,10 @@ loop-less : tie.Need-loop-less Inv-loop μ-loop
 loop-less c = omega arith
 
 loop-again : tie.Need-loop-again Inv-loop μ-loop
-loop-again c =
-    filled-more (c .before .before .loop .inv) (c .before .loop-test .taken) _
-    (c .taken .ensures)
+loop-again c = filled-more (c .before .before .loop .inv) (omega arith) _ (c .taken .ensures)
 
 returns : tie.Need-returns Inv-loop μ-loop
-unfolding mul
-returns c =
-    let p = c .before .before .args .t1 in
-    let q = c .before .before .args .q in
-    let width : length p ≡ 15 = omega arith in
-    filled-table (c .before .loop .inv) (c .loop-test .left) ∙ rw width at (table-map (at q) p)
+returns c = filled-mul _ _ (c .before .loop .inv) (omega arith) (omega arith)
 
 pub product-spec : {M : Type 1} → statement M
 product-spec =

@@ -31,11 +31,11 @@ loop-less : tie.Need-loop-less Inv-loop μ-loop
 loop-less c = omega arith
 
 loop-again : tie.Need-loop-again Inv-loop μ-loop
-loop-again c = filled-more (c .before .loop .inv) (c .loop-test .taken) _ refl
+loop-again c = filled-more (c .before .loop .inv) (omega arith) _ refl
 
 returns : tie.Need-returns Inv-loop μ-loop
 unfolding identity
-returns c = filled-table (c .before .loop .inv) (c .loop-test .left)
+returns c = filled-table (c .before .loop .inv) (omega arith)
 
 pub identity-spec : {M : Type 1} → statement M
 identity-spec =
