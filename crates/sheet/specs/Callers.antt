@@ -6,18 +6,21 @@
 --
 -- An answer says which it was (`accepted-as`, `refused-as`). An entry that is 1 says yes and another says no (`member-yes`,
 -- `member-no`, `allowed-yes`, `allowed-no`); where no rule's number stands there is no rule of the two risers (`no-rule`); the
--- first swaps of the table are the sheet's (`swaps-first`). No second answer fits: bytes settle the answer and the tables
+-- first swaps of the table are the sheet's (`swaps-first`, `swaps-wide`). No second answer fits: bytes settle the answer and the tables
 -- (`reads-once`).
 -- Assumes nothing.
-use mathlib.Core.Path.{_≡_, refl, sym, _∙_}
+use mathlib.Core.Path.{_≡_, refl, sym, ap, ap₂, _∙_}
 use mathlib.Core.Bool.{Bool, true, false}
-use mathlib.Core.List.{List, map}
-use Prim.Native.Nat.{ℕ, zero, suc, _+_, _*_, _/_, _%_, _<_}
+use mathlib.Core.List.{List, [], _∷_, _++_, map, List·Memᴰ·head, List·Memᴰ·tail}
+use Prim.Native.Nat.{ℕ, zero, suc, _+_, _*_, _-_, _/_, _%_, _<_}
 use native.Mathlib.Omega.{arith}
-use lib.ListN.{length, take, length-map}
+use lib.ListN.{length, take, drop, replicate, length-map, length-append, length-replicate}
 use lib.Seq.{ext-getD, take-at}
-use Rattle.ground.specs.Meanings.Group.{at}
-use Rattle.ground.specs.Meanings.Sheet.{Outcome, got, refused, Sheet, jobSheet, listedIn, allowedBy, Accepted, Refused, most-carriers, most-risers, most-rules, most-pairs}
+use Rattle.ground.specs.Meanings.Group.{at, identity, In}
+use Rattle.ground.specs.Meanings.Sheet.{Outcome, got, refused, Sheet, jobSheet, listedIn, allowedBy, Accepted, Refused, most-carriers, most-risers, most-rules, most-pairs, most-swaps}
+use Rattle.ground.specs.Laws.Members.{Perms}
+use Rattle.ground.specs.Laws.Padding.{pad}
+use Rattle.ground.specs.Laws.Sheets.{Sound, accepted-sound}
 use Rattle.sheet.specs.declared.Head.{Head}
 use Rattle.sheet.specs.Tables.{padded}
 use Rattle.sheet.specs.Answers.{tellSheet, pair}
@@ -81,6 +84,27 @@ module _ {X : Sheet} {member allowed ends : List ℕ} {swaps : List (List ℕ)} 
 
   pub swaps-first : take (length (X .swaps)) swaps ≡ map (padded most-carriers) (X .swaps)
   swaps-first = rw (v .swaps-are) (take-at (map (padded most-carriers) (X .swaps)) _ (length (X .swaps)) (length-map (X .swaps) (padded most-carriers)))
+
+-- padded by their own length, or by the number of carriers
+pub padded-pad : (w k : ℕ) (S : List (List ℕ)) → Perms k (In S) → map (padded w) S ≡ map (pad w k) S
+unfolding padded pad
+padded-pad w k [] P = refl
+padded-pad w k (g ∷ S) P = ap₂ _∷_ (ap (λ (n : ℕ). g ++ drop n (identity w)) (P g (List·Memᴰ·head refl) .size)) (padded-pad w k S (λ s m. P s (List·Memᴰ·tail m)))
+
+module _ {s : List ℕ} {k n m c : ℕ} {member allowed ends : List ℕ} {swaps : List (List ℕ)} (A : AcceptedAs s k n m c member allowed ends swaps) where
+  pub sheet-sound : Sound (A .sheet)
+  sheet-sound = accepted-sound s (A .sheet) (A .accepted)
+
+  -- the first swaps of the table are the sheet's, at all 15 carriers
+  pub swaps-wide : take c swaps ≡ map (pad most-carriers (A .sheet .carriers)) (A .sheet .swaps)
+  swaps-wide = ap (λ (j : ℕ). take j swaps) (sym (A .swaps-number)) ∙ swaps-first (A .serves) ∙ padded-pad most-carriers (A .sheet .carriers) (A .sheet .swaps) (sheet-sound .perms)
+
+  pub swaps-table : length swaps ≡ most-swaps
+  swaps-table =
+      ap (λ (l : List (List ℕ)). length l) (A .serves .swaps-are)
+      ∙ length-append (map (padded most-carriers) (A .sheet .swaps)) (replicate (most-swaps - length (A .sheet .swaps)) (identity most-carriers))
+      ∙ ap₂ _+_ (length-map (A .sheet .swaps) (padded most-carriers)) (length-replicate (most-swaps - length (A .sheet .swaps)) (identity most-carriers))
+      ∙ omega (arith, sheet-sound .few-swaps)
 
 -- ---- no second answer fits
 
