@@ -9,6 +9,7 @@
 //!   damage     sheets cut, changed and extended
 //!   edges      sheets and questions at the limits
 //!   questions  the seeded run of questions
+//!   trials     the questions of the gate, in a compact form
 
 pub mod answer;
 pub mod chance;
@@ -19,3 +20,4 @@ pub mod line;
 pub mod questions;
 pub mod shapes;
 pub mod sheet;
+pub mod trials;

@@ -1,6 +1,7 @@
 -- Lists: a table of a function, places and members, what is decided of all members.
 --
--- `at-tab`, `at-map` say what stands at a place; `mem-at`, `at-mem` go between places and members; `mem?` and `all-or`
+-- `at-tab`, `at-map` say what stands at a place; `mem-getD`, `index-of` go between places and members (`mem-at`,
+-- `at-mem` for numbers); `mem?` and `all-or`
 -- decide where each case is decided, `row?` tells rows apart; `fill-more` is one turn of a loop that fills a table.
 -- Assumes nothing.
 use mathlib.Core.Path.{_≡_, refl, sym, ap, ap₂, _∙_}
@@ -10,7 +11,7 @@ use Prim.Native.Nat.{ℕ, zero, suc, _+_, _<_, zero-le, suc-le-suc}
 use native.Mathlib.Nat.{le-of-suc-le-suc, not-suc-le-zero, suc-inj, suc-ne-zero, zero-lt-suc}
 use native.Mathlib.Decide.{ℕ-discrete}
 use native.Mathlib.Omega.{arith}
-use lib.ListN.{length, set}
+use lib.ListN.{length, getD, take, set}
 use lib.Seq.{getD-set-same, getD-set-other}
 use Rattle.ground.specs.Meanings.Exactly.{_∈_, Once}
 use Rattle.ground.specs.Meanings.Group.{at, tab}
@@ -31,15 +32,29 @@ at-map f (a ∷ l) (suc x) h = at-map f l x (le-of-suc-le-suc h)
 
 -- ---- membership
 
-pub mem-at : (l : List ℕ) (x : ℕ) → x < length l → at l x ∈ l
-mem-at [] x h = absurd (not-suc-le-zero h)
-mem-at (a ∷ l) zero h = List·Memᴰ·head refl
-mem-at (a ∷ l) (suc x) h = List·Memᴰ·tail (mem-at l x (le-of-suc-le-suc h))
+-- what stands at a place below n is among the first n
+pub mem-take : {A : Type 0} (n : ℕ) (l : List A) (i : ℕ) (d : A) → i < n → i < length l → getD l i d ∈ take n l
+mem-take zero l i d h g = absurd (not-suc-le-zero h)
+mem-take (suc n) [] i d h g = absurd (not-suc-le-zero g)
+mem-take (suc n) (a ∷ l) zero d h g = List·Memᴰ·head refl
+mem-take (suc n) (a ∷ l) (suc i) d h g = List·Memᴰ·tail (mem-take n l i d (le-of-suc-le-suc h) (le-of-suc-le-suc g))
 
--- the index of a member
+pub mem-getD : {A : Type 0} (d : A) (l : List A) (i : ℕ) → i < length l → getD l i d ∈ l
+mem-getD d [] i h = absurd (not-suc-le-zero h)
+mem-getD d (x ∷ l) zero h = List·Memᴰ·head refl
+mem-getD d (x ∷ l) (suc i) h = List·Memᴰ·tail (mem-getD d l i (le-of-suc-le-suc h))
+
+-- the place of a member
+pub index-of : {A : Type 0} (d : A) {x : A} {l : List A} → x ∈ l → (i : ℕ) × (i < length l) × (getD l i d ≡ x)
+index-of d (List·Memᴰ·head e) = (zero, zero-lt-suc _, sym e)
+index-of d (List·Memᴰ·tail m) = let r = index-of d m in (suc r.0, suc-le-suc r.1, r.2)
+
+-- of numbers
+pub mem-at : (l : List ℕ) (x : ℕ) → x < length l → at l x ∈ l
+mem-at = mem-getD 0
+
 pub at-mem : {a : ℕ} {l : List ℕ} → a ∈ l → (i : ℕ) × (i < length l) × (at l i ≡ a)
-at-mem (List·Memᴰ·head e) = (zero, zero-lt-suc _, sym e)
-at-mem (List·Memᴰ·tail m) = let r = at-mem m in (suc r.0, suc-le-suc r.1, r.2)
+at-mem = index-of 0
 
 -- ---- no element twice
 

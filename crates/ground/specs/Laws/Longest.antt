@@ -12,13 +12,13 @@ use Rattle.ground.specs.Meanings.Exactly.{_∈_}
 use Rattle.ground.specs.Meanings.Group.{tab}
 use Rattle.ground.specs.Meanings.Sheet.{Sheet, Rule, Pair, Accepted, most-pairs}
 use Rattle.ground.specs.Laws.Enumerations.{pigeonhole}
-use Rattle.ground.specs.Laws.Lists.{length-tab}
+use Rattle.ground.specs.Laws.Lists.{length-tab, index-of}
 use Rattle.ground.specs.Laws.Permutations.{mem-range}
 use Rattle.ground.specs.Laws.Reading.{and-right}
 use Rattle.ground.specs.Laws.Rows.{Below}
 use Rattle.ground.specs.Laws.Spelling.{each-written, writeList, writePair, writeRule, written, one-spelling}
 use Rattle.ground.specs.Laws.Valid.{Valid, accepted-valid}
-use Rattle.ground.specs.Laws.Sheets.{Sound, valid-sound, valid-rule, Ascends, ascends-once, index-of}
+use Rattle.ground.specs.Laws.Sheets.{Sound, valid-sound, valid-rule, Ascends, ascends-once}
 
 -- items of at most m bytes each
 written-most : {A : Type 0} (w : A → List ℕ) (m : ℕ) (l : List A) → ((x : A) → x ∈ l → length (w x) ≤ m) → length (each-written w l) ≤ length l * m

@@ -23,13 +23,13 @@ use Rattle.ground.specs.Meanings.Sheet.{most-carriers, most-risers, Shee
 use Rattle.ground.specs.Meanings.Plans.{risers, list, Row, Allows, Keeps, Plan, ImageOn, Listable, Opened, ClassSize, OpenedIs, TotalIs}
 use Rattle.ground.specs.Meanings.Listing.{Line, rowsOf, sizesOf, Ascending, Listing, room, flat, over, filled, Left, left, ListsOn, beyond-allowance, beyond-room, listed, Lists}
 use Rattle.ground.specs.Meanings.Folding.{Whole, Fitting, Folded, folded, FoldsOn, not-whole, not-fitting, carried, Folds}
-use Rattle.ground.specs.Laws.Lists.{all-or, length-tab}
+use Rattle.ground.specs.Laws.Lists.{all-or, length-tab, index-of}
 use Rattle.ground.specs.Laws.Enumerations.{pigeonhole, counts-same, enum-iff, enum-filter, filter, in-filter, filter-in}
 use Rattle.ground.specs.Laws.Permutations.{mem-range}
 use Rattle.ground.specs.Laws.Order.{three}
 use Rattle.ground.specs.Laws.Rows.{Below, image-by, image-trans}
 use Rattle.ground.specs.Laws.Classes.{first-exists}
-use Rattle.ground.specs.Laws.Sheets.{Sound, accepted-sound, Ascends, ascends-once, index-of, row-below, whole-row, isIn-mem, mem-isIn, isPairIn-mem, mem-isPairIn}
+use Rattle.ground.specs.Laws.Sheets.{Sound, accepted-sound, Ascends, ascends-once, row-below, whole-row, isIn-mem, mem-isIn, isPairIn-mem, mem-isPairIn}
 use Rattle.ground.specs.Laws.Choices.{Drawn, Begun, choices, beginnings, choices-enum, beginnings-enum, choices-ascend, filter-ascend, choices-most}
 use Rattle.ground.specs.Laws.Images.{images, images-enum, members, members-enum}
 use Rattle.ground.specs.Theorems.Kinds.{whole-kinds}

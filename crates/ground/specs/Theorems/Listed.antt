@@ -1,0 +1,80 @@
+-- Demands 2 and 3 for what a listing leaves: whatever fits the meaning of a listing has these properties, and so has the code.
+--
+--   WholeListing ..  an accepted listing: its sheet, its lines, and that both lists hold them
+--
+-- With number 0 the listing is exactly the plans that are first among their images, ascending, with their class sizes
+-- (`accepted-listing`); each plan is an image of exactly one of them, and the sizes sum to the total (`each-plan-once`,
+-- `sizes-total`). On a sheet without fault the allowance refuses exactly when the number of opened rows is larger
+-- (`allowance-refuses`), the room exactly when the allowance does not and more plans are listed than it holds (`room-refuses`).
+-- Assumes nothing.
+use mathlib.Core.Path.{_≡_, refl, sym, ap, subst, _∙_}
+use mathlib.Core.Logic.{_↔_}
+use mathlib.Core.List.{List}
+use Prim.Native.Nat.{ℕ, _≤_, _<_}
+use native.Mathlib.Omega.{arith}
+use lib.ListN.{length}
+use Rattle.ground.specs.Meanings.Sheet.{Sheet, Accepted}
+use Rattle.ground.specs.Meanings.Plans.{risers, Plan, OpenedIs, TotalIs}
+use Rattle.ground.specs.Meanings.Listing.{Line, Listing, rowsOf, sizesOf, flat, over, room, Left, ListsOn, beyond-allowance, beyond-room, listed, Lists}
+use Rattle.ground.specs.Laws.Enumerations.{counts-same}
+use Rattle.ground.specs.Laws.Classes.{total}
+use Rattle.ground.specs.Laws.Sheets.{accepted-sound}
+use Rattle.ground.specs.Laws.Numbers.{refused-low}
+use Rattle.ground.specs.Theorems.Kinds.{ListedFor, one-listed, sizes-sum, one-listing}
+use Rattle.ground.specs.Theorems.OneAnswer.{accepted-same, accepted-not-refused}
+
+pub record WholeListing (s : List ℕ) (bytes sizes : List ℕ) (o : Left) : Type 0 where
+  pub sheet : Sheet
+  pub accepted : Accepted s sheet
+  pub lines : List Line
+  pub listing : Listing sheet lines
+  pub listed : o .listed ≡ length lines
+  pub opened : OpenedIs sheet (o .opened)
+  pub total : TotalIs sheet (o .total)
+  pub rows-stand : o .bytes ≡ over (flat (rowsOf lines)) bytes
+  pub sizes-stand : o .sizes ≡ over (sizesOf lines) sizes
+
+-- demand 2
+pub accepted-listing : (s : List ℕ) (allowance : ℕ) (bytes sizes : List ℕ) {o : Left} → Lists s allowance bytes sizes o → o .number ≡ 0 → WholeListing s bytes sizes o
+accepted-listing s allowance bytes sizes (Lists.faulty {number = q} {place = p} r) e = absurd (let l = refused-low s q p r in omega (arith, l .0))
+accepted-listing s allowance bytes sizes (Lists.sheet {X = X} a (beyond-allowance b l)) e = absurd (omega arith)
+accepted-listing s allowance bytes sizes (Lists.sheet {X = X} a (beyond-room b m t F r)) e = absurd (omega arith)
+accepted-listing s allowance bytes sizes (Lists.sheet {X = X} a (listed {F = F} b m t L r)) e =
+    record { sheet = X; accepted = a; lines = F; listing = L; listed = refl; opened = b; total = t; rows-stand = refl; sizes-stand = refl }
+
+-- demand 3
+module _ {s bytes sizes : List ℕ} {o : Left} (W : WholeListing s bytes sizes o) where
+  pub each-plan-once : (r : List ℕ) → Plan (W .sheet) r → ListedFor (W .sheet) (W .lines) r
+  each-plan-once = one-listed (accepted-sound s (W .sheet) (W .accepted)) (W .listing)
+
+  pub sizes-total : total (sizesOf (W .lines)) ≡ o .total
+  sizes-total = counts-same (sizes-sum (accepted-sound s (W .sheet) (W .accepted)) (W .listing)) (W .total)
+
+-- ---- the refusals of a sheet without fault
+
+module _ (s : List ℕ) (X : Sheet) (a : Accepted s X) (allowance : ℕ) (bytes sizes : List ℕ) where
+  on-sheet : {o : Left} → Lists s allowance bytes sizes o → ListsOn X allowance bytes sizes o
+  on-sheet (Lists.faulty {number = q} {place = p} r) = absurd (accepted-not-refused s X q p a r)
+  on-sheet (Lists.sheet {X = Y} {o = o} b l) = subst (λ (W : Sheet). ListsOn W allowance bytes sizes o) (accepted-same s Y X b a) l
+
+  refuses-beyond : {o : Left} {n : ℕ} → OpenedIs X n → ListsOn X allowance bytes sizes o → (o .number ≡ 10) ↔ (allowance < n)
+  refuses-beyond c (beyond-allowance b l) = (λ e. omega (arith, counts-same b c), λ m. refl)
+  refuses-beyond c (beyond-room b m t F r) = (λ e. absurd (omega arith), λ l. absurd (omega (arith, counts-same b c)))
+  refuses-beyond c (listed b m t F r) = (λ e. absurd (omega arith), λ l. absurd (omega (arith, counts-same b c)))
+
+  -- 10 exactly when the number of opened rows is larger than the allowance
+  pub allowance-refuses : {o : Left} {n : ℕ} → OpenedIs X n → Lists s allowance bytes sizes o → (o .number ≡ 10) ↔ (allowance < n)
+  allowance-refuses c l = refuses-beyond c (on-sheet l)
+
+  refuses-crowded : {o : Left} {n : ℕ} {F : List Line} → OpenedIs X n → Listing X F → ListsOn X allowance bytes sizes o → (o .number ≡ 11) ↔ ((n ≤ allowance) × (room (risers X) bytes sizes < length F))
+  refuses-crowded c L (beyond-allowance b l) = (λ e. absurd (omega arith), λ w. absurd (omega (arith, counts-same b c, w .0)))
+  refuses-crowded {F = F} c L (beyond-room {F = G} b m t K r) =
+      let e = ap (λ (H : List Line). length H) (one-listing F G L K) in
+      (λ q. (omega (arith, counts-same b c), omega arith), λ w. refl)
+  refuses-crowded {F = F} c L (listed {F = G} b m t K r) =
+      let e = ap (λ (H : List Line). length H) (one-listing F G L K) in
+      (λ q. absurd (omega arith), λ w. absurd (omega (arith, w .1)))
+
+  -- 11 exactly when the allowance does not refuse and there is no room for all listed plans
+  pub room-refuses : {o : Left} {n : ℕ} {F : List Line} → OpenedIs X n → Listing X F → Lists s allowance bytes sizes o → (o .number ≡ 11) ↔ ((n ≤ allowance) × (room (risers X) bytes sizes < length F))
+  room-refuses c L l = refuses-crowded c L (on-sheet l)

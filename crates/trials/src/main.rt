@@ -1,0 +1,306 @@
+// Holds the proved calls to brute force: asks the questions on standard input, and prints a line for each answer. The file stdout
+// beside this has what brute force says; tools/trials makes both.
+//
+// A question is a head of sixteen bytes, then a sheet, then, to fold, a row. Numbers have their low byte first.
+//
+//   0       0 to list, 1 to fold
+//   1       what the lent lists are filled from
+//   2, 3    the length of the sheet
+//   4, 5    the length of the first lent list: the rows' bytes, or the buffer for the first image
+//   6, 7    the length of the second: the sizes, or the buffer for the member
+//   8 - 15  the allowance, or the length of the row
+//
+// To list, the line is NUMBER PLACE LISTED OPENED TOTAL BYTES SIZES; to fold, NUMBER PLACE SIZE FIRST MEMBER. Bytes are in hex,
+// sizes in decimal with commas, an empty list is -. Where a row is folded, MEMBER is not the member itself, of which there may be
+// several, but what it makes of the row, and then whether it is a permutation.
+ghost use Prim.Native.Nat.{_≤_};
+use folding::fold;
+use ground::LONGEST;
+use listing::list;
+use text::print_line;
+use text::put;
+use text::put_number;
+
+// The length of a question's head.
+const HEAD: usize = 16;
+
+// The most bytes that a sheet, a row and each lent list have here, and more than a line has.
+const SHEET: usize = LONGEST + 1;
+
+const ROW: usize = 64;
+
+const BYTES: usize = 1024;
+
+const SIZES: usize = 128;
+
+const LINE: usize = 8192;
+
+// More than there are questions.
+const TURNS: usize = 100000;
+
+// Asks one question after another.
+fn main() {
+    let mut turns = TURNS;
+    while 0 < turns {
+        if !trial() {
+            return;
+        }
+        turns -= 1;
+    }
+}
+
+// Asks the next question and prints its answer; false where no whole question is left.
+fn trial() -> bool {
+    let mut head = [0u8; HEAD];
+    let mut sheet = [0u8; SHEET];
+    if !read(&mut head, HEAD) {
+        return false;
+    }
+    let length = two(head[2], head[3]);
+    if !read(&mut sheet, length) {
+        return false;
+    }
+    if head[0] == 0 {
+        listing_trial(&head, start(&sheet, length))
+    } else {
+        folding_trial(&head, start(&sheet, length))
+    }
+}
+
+// Reads so many bytes into the start of a list; false where fewer are left, or the list is too short.
+fn read(list: &mut [u8], length: usize) -> bool {
+    if list.len() < length {
+        return false;
+    }
+    io::read_full(0, &mut list[0..length]) == length
+}
+
+// So many bytes from the start of a list, or the whole list where it is shorter.
+fn start(list: &[u8], length: usize) -> &[u8] {
+    if length <= list.len() {
+        &list[0..length]
+    } else {
+        list
+    }
+}
+
+// Lists the sheet as the head says, and prints the answer.
+fn listing_trial(head: &[u8; HEAD], sheet: &[u8]) -> bool {
+    let mut bytes = [0u8; BYTES];
+    let mut sizes = [0u64; SIZES];
+    let first = two(head[4], head[5]);
+    let second = two(head[6], head[7]);
+    if BYTES < first {
+        return false;
+    }
+    if SIZES < second {
+        return false;
+    }
+    fill_bytes(&mut bytes, head[1]);
+    fill_sizes(&mut sizes, head[1]);
+    print_listing(
+        sheet,
+        eight(head),
+        &mut bytes[0..first],
+        &mut sizes[0..second],
+    );
+    true
+}
+
+// Reads the row that comes next, folds it as the head says, and prints the answer.
+fn folding_trial(head: &[u8; HEAD], sheet: &[u8]) -> bool {
+    let mut row = [0u8; ROW];
+    let length = two(head[8], head[9]);
+    if !read(&mut row, length) {
+        return false;
+    }
+    row_trial(head, sheet, start(&row, length))
+}
+
+// Folds a row as the head says, and prints the answer.
+fn row_trial(head: &[u8; HEAD], sheet: &[u8], row: &[u8]) -> bool {
+    let mut first = [0u8; BYTES];
+    let mut member = [0u8; BYTES];
+    let first_length = two(head[4], head[5]);
+    let member_length = two(head[6], head[7]);
+    if BYTES < first_length {
+        return false;
+    }
+    if BYTES < member_length {
+        return false;
+    }
+    fill_bytes(&mut first, head[1]);
+    fill_bytes(&mut member, head[1]);
+    print_folding(
+        sheet,
+        row,
+        &mut first[0..first_length],
+        &mut member[0..member_length],
+    );
+    true
+}
+
+// Lists the sheet, and prints the answer with both lists as they are then.
+fn print_listing(sheet: &[u8], allowance: u64, bytes: &mut [u8], sizes: &mut [u64]) {
+    let answer = list(sheet, allowance, bytes, sizes);
+    let mut line = [0u8; LINE];
+    let mut at = put_number(&mut line, 0, number(answer.number));
+    at = put_next(&mut line, at, answer.place as u64);
+    at = put_next(&mut line, at, answer.listed as u64);
+    at = put_next(&mut line, at, answer.opened);
+    at = put_next(&mut line, at, answer.total);
+    at = put_bytes(&mut line, at, bytes);
+    at = put_sizes(&mut line, at, sizes);
+    print_line(&mut line, at);
+}
+
+// Folds the row, and prints the answer with the first buffer as it is then.
+fn print_folding(sheet: &[u8], row: &[u8], first: &mut [u8], member: &mut [u8]) {
+    let answer = fold(sheet, row, first, member);
+    let mut line = [0u8; LINE];
+    let mut at = put_number(&mut line, 0, number(answer.number));
+    at = put_next(&mut line, at, answer.place);
+    at = put_next(&mut line, at, answer.size);
+    at = put_bytes(&mut line, at, first);
+    at = put_member(&mut line, at, member, row, answer.number);
+    print_line(&mut line, at);
+}
+
+// A byte as an index, and as a number.
+fn wide(byte: u8) -> usize
+    ensures { λ r. ⌜ r ≤ 255 ⌝ }
+{
+    byte as usize
+}
+
+fn number(byte: u8) -> u64 {
+    byte as u64
+}
+
+// The number of two bytes.
+fn two(low: u8, high: u8) -> usize {
+    wide(high) * 256 + wide(low)
+}
+
+// The number of the head's last eight bytes.
+fn eight(head: &[u8; HEAD]) -> u64 {
+    let mut value = 0;
+    let mut i = HEAD;
+    while 8 < i {
+        i -= 1;
+        value = value << 8 | number(head[i]);
+    }
+    value
+}
+
+// Fills a list of bytes with different ones, from a byte on.
+fn fill_bytes(bytes: &mut [u8], from: u8) {
+    let mut byte = from;
+    for i in 0..bytes.len() {
+        bytes[i] = byte;
+        byte = std::num::wrapping_add_u8(byte, 37);
+    }
+}
+
+// Fills a list of sizes with different ones, from a byte on.
+fn fill_sizes(sizes: &mut [u64], from: u8) {
+    let mut size = number(from);
+    for i in 0..sizes.len() {
+        sizes[i] = size;
+        size = std::num::wrapping_add_u64(size, 11400714819323198485);
+    }
+}
+
+// Puts a space and a number into the line.
+fn put_next(line: &mut [u8], at: usize, n: u64) -> usize {
+    let next = put(line, at, b" ");
+    put_number(line, next, n)
+}
+
+// Puts a byte into the line, in hex.
+fn put_byte(line: &mut [u8], at: usize, byte: u8) -> usize {
+    let mut digits = [0u8; 16];
+    let count = io::hex(number(byte), 2, &mut digits);
+    put(line, at, &digits[..count])
+}
+
+// Puts a space and some bytes into the line.
+fn put_bytes(line: &mut [u8], at: usize, bytes: &[u8]) -> usize {
+    if bytes.len() == 0 {
+        return put(line, at, b" -");
+    }
+    let mut next = put(line, at, b" ");
+    for i in 0..bytes.len() {
+        next = put_byte(line, next, bytes[i]);
+    }
+    next
+}
+
+// Puts a space and some sizes into the line.
+fn put_sizes(line: &mut [u8], at: usize, sizes: &[u64]) -> usize {
+    if sizes.len() == 0 {
+        return put(line, at, b" -");
+    }
+    let mut next = put_next(line, at, sizes[0]);
+    for i in 1..sizes.len() {
+        next = put(line, next, b",");
+        next = put_number(line, next, sizes[i]);
+    }
+    next
+}
+
+// Puts the member's buffer into the line; where the number is 0, what it makes of the row and whether it is a permutation.
+fn put_member(line: &mut [u8], at: usize, member: &[u8], row: &[u8], number: u8) -> usize {
+    if number != 0 {
+        return put_bytes(line, at, member);
+    }
+    let next = put_moved(line, at, member, row);
+    put_whether(line, next, is_permutation(member))
+}
+
+// Puts a space and what a member makes of a row into the line.
+fn put_moved(line: &mut [u8], at: usize, member: &[u8], row: &[u8]) -> usize {
+    let mut next = put(line, at, b" ");
+    for i in 0..row.len() {
+        next = put_byte(line, next, image(member, wide(row[i])));
+    }
+    next
+}
+
+// What a member makes of a carrier, or 255 where it says nothing of it.
+fn image(member: &[u8], carrier: usize) -> u8 {
+    if carrier < member.len() {
+        member[carrier]
+    } else {
+        255
+    }
+}
+
+// Puts whether a member is a permutation into the line.
+fn put_whether(line: &mut [u8], at: usize, whether: bool) -> usize {
+    if whether {
+        put(line, at, b" permutation")
+    } else {
+        put(line, at, b" none")
+    }
+}
+
+// Whether each number below the list's length is in the list.
+fn is_permutation(list: &[u8]) -> bool {
+    for x in 0..list.len() {
+        if !has(list, x) {
+            return false;
+        }
+    }
+    true
+}
+
+// Whether a number is in a list.
+fn has(list: &[u8], x: usize) -> bool {
+    for i in 0..list.len() {
+        if wide(list[i]) == x {
+            return true;
+        }
+    }
+    false
+}
