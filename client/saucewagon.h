@@ -23,8 +23,8 @@
  * What the caller owes: each pointer is good for as many elements as the length beside it says (a single number's pointer for
  * that number), none is NULL, also where the length is 0, and nothing that is written overlaps anything else that is handed over.
  * Nothing else is asked: no content of any list is trusted, and no call fails to return.
- * A call keeps nothing, calls nothing back and uses no memory of its own but the stack (less than 64 KiB), so that calls on
- * different lists may run side by side.
+ * A call keeps nothing, calls nothing back and uses no memory of its own but the stack (74 KB was the most seen; have 128 KiB),
+ * so that calls on different lists may run side by side.
  */
 #ifndef SAUCEWAGON_H
 #define SAUCEWAGON_H
