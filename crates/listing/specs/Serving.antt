@@ -1,25 +1,23 @@
 -- The reader's tables serve the search: both speak of the same sheet, the reader by tests, the search by facts.
 -- Assumes nothing.
-use mathlib.Core.Path.{_≡_, refl, sym, ap, ap₂, subst, _∙_}
+use mathlib.Core.Path.{_≡_, refl, sym, ap, ap₂, _∙_}
 use mathlib.Core.Logic.{inl, inr}
 use mathlib.Core.Bool.{Bool, true, false}
-use mathlib.Core.List.{List, [], _∷_, _++_, map, List·Memᴰ·head, List·Memᴰ·tail}
-use Prim.Native.Nat.{ℕ, zero, suc, _+_, _*_, _-_, _≤_, _<_}
+use mathlib.Core.List.{List}
+use Prim.Native.Nat.{ℕ, zero, suc, _+_, _*_, _<_}
 use native.Mathlib.Nat.{add-assoc}
 use native.Mathlib.Omega.{arith}
-use lib.ListN.{length, getD, take, drop, replicate, length-map}
-use lib.Seq.{take-at}
+use lib.ListN.{length}
 use Rattle.ground.specs.Meanings.Exactly.{_∈_}
-use Rattle.ground.specs.Meanings.Group.{at, identity}
-use Rattle.ground.specs.Meanings.Sheet.{Sheet, Rule, Pair, noRule, listedIn, allowedBy, isIn, isPairIn, most-carriers, most-risers, most-rules, most-pairs, most-swaps}
-use Rattle.ground.specs.Meanings.Plans.{risers, list, Allows}
-use Rattle.ground.specs.Laws.Padding.{pad}
+use Rattle.ground.specs.Meanings.Group.{at}
+use Rattle.ground.specs.Meanings.Sheet.{Sheet, Rule, Pair, noRule, isIn, isPairIn, most-carriers, most-risers, most-pairs}
+use Rattle.ground.specs.Meanings.Plans.{risers, list}
 use Rattle.ground.specs.Laws.Lists.{index-of}
 use Rattle.ground.specs.Laws.Sheets.{Sound, isIn-mem, mem-isIn, isPairIn-mem, mem-isPairIn}
 use Rattle.sheet.specs.Serves as reader
 use Rattle.sheet.specs.Serves.{bit, risersOf}
-use Rattle.sheet.specs.Tables.{padded}
-use Rattle.search.specs.Tables.{Tables, tables, Flag, rule, Only, None, Ending, Serves}
+use Rattle.sheet.specs.Callers.{swaps-first, padded-pad}
+use Rattle.search.specs.Tables.{tables, Flag, rule, Ending, Serves}
 
 -- a bit of a test flags what the test says
 flagged : {P : Type 0} (b : Bool) {x : ℕ} → (b ≡ true → P) → (P → b ≡ true) → x ≡ bit b → Flag P x
@@ -57,14 +55,6 @@ module _ {X : Sheet} {member allowed ends : List ℕ} {swaps : List (List ℕ)} 
             omega arith,
           )
 
-  same-pad : (g : List ℕ) → length g ≡ X .carriers → padded most-carriers g ≡ pad most-carriers (X .carriers) g
-  unfolding padded pad
-  same-pad g e = ap (λ (j : ℕ). g ++ drop j (identity most-carriers)) e
-
-  same-pads : (S : List (List ℕ)) → ((g : List ℕ) → g ∈ S → length g ≡ X .carriers) → map (padded most-carriers) S ≡ map (pad most-carriers (X .carriers)) S
-  same-pads [] f = refl
-  same-pads (g ∷ S) f = ap₂ _∷_ (same-pad g (f g (List·Memᴰ·head refl))) (same-pads S (λ h m. f h (List·Memᴰ·tail m)))
-
   pub serves : Serves X (X .carriers) (risers X) (length (X .swaps)) (tables member allowed ends) swaps
   serves = record {
     sound = Z;
@@ -78,7 +68,5 @@ module _ {X : Sheet} {member allowed ends : List ℕ} {swaps : List (List ℕ)} 
         flagged (isPairIn u v (rule X q .pairs)) (isPairIn-mem u v (rule X q .pairs)) (mem-isPairIn u v (rule X q .pairs))
         (ap (at allowed) (add-assoc (q * most-pairs) (u * most-carriers) v) ∙ R .allowed-at q u v (omega arith) (omega arith) (omega arith));
     counted = refl;
-    padded = ap (take (length (X .swaps))) (R .swaps-are)
-        ∙ take-at (map (padded most-carriers) (X .swaps)) (replicate (most-swaps - length (X .swaps)) (identity most-carriers)) (length (X .swaps)) (length-map (X .swaps) (padded most-carriers))
-        ∙ same-pads (X .swaps) (λ g m. Z .perms g m .size);
+    padded = swaps-first R ∙ padded-pad most-carriers (X .carriers) (X .swaps) (Z .perms);
   }

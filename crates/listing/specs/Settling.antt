@@ -6,29 +6,26 @@
 -- Where the reader accepts, the tables are given (`given`), the search may start (`ready`), and what is settled fits the meanings
 -- (`settles`); where the reader refuses, so does the listing (`refuses`).
 -- Assumes nothing.
-use mathlib.Core.Path.{_≡_, refl, sym, ap, ap₂, subst, _∙_}
+use mathlib.Core.Path.{_≡_, sym, ap, subst, _∙_}
 use mathlib.Core.Bool.{Bool, true, false, cond}
-use mathlib.Core.List.{List, [], _∷_, _++_, map}
-use Prim.Native.Nat.{ℕ, zero, suc, _+_, _*_, _-_, _/_, _≤_, _<_, min}
+use mathlib.Core.List.{List}
+use Prim.Native.Nat.{ℕ, _*_, _/_, _≤_, _<_, min}
 use native.Mathlib.Nat.{le-trans, div-mul-le-self, mul-le-mul-right}
 use native.Mathlib.Decide.{decLt}
 use native.Mathlib.Omega.{arith}
 use borrow.Author.Tests.{lt-ltb, le-ltb}
 use lib.Dec.{ltb}
-use lib.ListN.{length, take, replicate, length-append, length-map, length-replicate}
+use lib.ListN.{length, take, replicate}
 use lib.Seq.{take-all}
-use Rattle.ground.specs.Meanings.Group.{identity}
-use Rattle.ground.specs.Meanings.Sheet.{Sheet, Outcome, got, refused, jobSheet, Accepted, Refused, most-carriers, most-risers, most-swaps}
+use Rattle.ground.specs.Meanings.Sheet.{Sheet, Accepted, Refused, most-swaps}
 use Rattle.ground.specs.Meanings.Plans.{risers}
 use Rattle.ground.specs.Meanings.Listing.{Line, room, filled, over, flat, rowsOf, sizesOf, Left, left, ListsOn, beyond-allowance, beyond-room, listed, Lists}
-use Rattle.ground.specs.Laws.Sheets.{Sound, accepted-sound}
 use Rattle.sheet.specs.declared.Head.{Head}
 use Rattle.sheet.specs.Serves as reader
-use Rattle.sheet.specs.Answers.{tellSheet}
-use Rattle.sheet.specs.Tables.{padded}
+use Rattle.sheet.specs.Callers.{accepted-as, refused-as, sheet-sound, swaps-table}
 use Rattle.search.specs.declared.Limits.{Limits}
-use Rattle.search.specs.Visits.{State, state}
-use Rattle.search.specs.Tables.{Tables, tables, Serves}
+use Rattle.search.specs.Visits.{State}
+use Rattle.search.specs.Tables.{tables, Serves}
 use Rattle.search.specs.Answer.{Ready, Answer, Searches, most-stored}
 use Rattle.search.specs.OnSheet.{serves-few, serves-perms}
 use Rattle.listing.specs.Serving.{serves}
@@ -41,55 +38,18 @@ pub record Given (s : List ℕ) (k n m : ℕ) (member allowed ends : List ℕ) (
   pub serves : Serves sheet k n m (tables member allowed ends) swaps
   pub eight : length swaps ≡ most-swaps
 
-given-accepted : (s : List ℕ) (k n q m : ℕ) {member allowed ends : List ℕ} {swaps : List (List ℕ)} → reader.Reads s 0 (Head.Accepted k n q m) member allowed ends swaps → Given s k n m member allowed ends swaps
-given-accepted s k n q m {member} {allowed} {ends} {swaps} R = go (jobSheet s 0) refl
-  where
-    named : (X : Sheet) (end : ℕ) → jobSheet s 0 ≡ got X end → Head.Accepted k n q m ≡ Head.Accepted (X .carriers) (length (X .lists)) (length (X .rules)) (length (X .swaps)) → Given s k n m member allowed ends swaps
-    named X end e h =
-        let a : Accepted s X = record { end = end; read = e } in
-        let Z = accepted-sound s X a in
-        let x : k ≡ X .carriers = cc in
-        let y : n ≡ length (X .lists) = cc in
-        let z : m ≡ length (X .swaps) = cc in
-        let r = R .serves X end e in
-        record {
-          sheet = X;
-          accepted = a;
-          serves = subst (λ (v : ℕ × ℕ × ℕ). Serves X (v .0) (v .1) (v .2) (tables member allowed ends) swaps) (λ i. (sym x i, sym y i, sym z i)) (serves Z r);
-          eight = ap (λ (l : List (List ℕ)). length l) (r .swaps-are)
-              ∙ length-append (map (padded most-carriers) (X .swaps)) (replicate (most-swaps - length (X .swaps)) (identity most-carriers))
-              ∙ ap₂ _+_ (length-map (X .swaps) (padded most-carriers)) (length-replicate (most-swaps - length (X .swaps)) (identity most-carriers))
-              ∙ omega (arith, Z .few-swaps);
-        }
-
-    clash : (a b : ℕ) → Head.Accepted k n q m ≡ Head.Refused a b → Given s k n m member allowed ends swaps
-    clash a b h = absurd (let z : _≡_ {A = ℕ} 0 1 = cc in omega arith)
-
-    go : (o : Outcome Sheet) → jobSheet s 0 ≡ o → Given s k n m member allowed ends swaps
-    go (got X end) e = named X end e (subst (λ (o : Outcome Sheet). Head.Accepted k n q m ≡ tellSheet o) e (R .told))
-    go (refused a b) e = clash a b (subst (λ (o : Outcome Sheet). Head.Accepted k n q m ≡ tellSheet o) e (R .told))
-
 pub given : {s : List ℕ} {k n q m : ℕ} {r : Head} {member allowed ends : List ℕ} {swaps : List (List ℕ)} → reader.Reads s 0 r member allowed ends swaps → r ≡ Head.Accepted k n q m → Given s k n m member allowed ends swaps
-given {s} {k} {n} {q} {m} {member = member} {allowed = allowed} {ends = ends} {swaps = swaps} R e = given-accepted s k n q m (subst (λ (r : Head). reader.Reads s 0 r member allowed ends swaps) e R)
-
-refused-reads : (s : List ℕ) (allowance number place : ℕ) (bytes sizes : List ℕ) {member allowed ends : List ℕ} {swaps : List (List ℕ)} → reader.Reads s 0 (Head.Refused number place) member allowed ends swaps → Lists s allowance bytes sizes (left number place 0 0 0 bytes sizes)
-refused-reads s allowance number place bytes sizes R = go (jobSheet s 0) refl
-  where
-    named : (a b : ℕ) → jobSheet s 0 ≡ refused a b → Head.Refused number place ≡ Head.Refused a b → Lists s allowance bytes sizes (left number place 0 0 0 bytes sizes)
-    named a b e h =
-        let x : number ≡ a = cc in
-        let y : place ≡ b = cc in
-        Lists.faulty (record { read = e ∙ ap₂ (λ (u v : ℕ). refused u v) (sym x) (sym y) })
-
-    clash : (k n q m : ℕ) → Head.Refused number place ≡ Head.Accepted k n q m → Lists s allowance bytes sizes (left number place 0 0 0 bytes sizes)
-    clash k n q m h = absurd (let z : _≡_ {A = ℕ} 0 1 = cc in omega arith)
-
-    go : (o : Outcome Sheet) → jobSheet s 0 ≡ o → Lists s allowance bytes sizes (left number place 0 0 0 bytes sizes)
-    go (got X end) e = clash (X .carriers) (length (X .lists)) (length (X .rules)) (length (X .swaps)) (subst (λ (o : Outcome Sheet). Head.Refused number place ≡ tellSheet o) e (R .told))
-    go (refused a b) e = named a b e (subst (λ (o : Outcome Sheet). Head.Refused number place ≡ tellSheet o) e (R .told))
+given {member = member} {allowed = allowed} {ends = ends} {swaps = swaps} R e =
+    let w = accepted-as R e in
+    record {
+      sheet = w .sheet;
+      accepted = w .accepted;
+      serves = subst (λ (v : ℕ × ℕ × ℕ). Serves (w .sheet) (v .0) (v .1) (v .2) (tables member allowed ends) swaps) (λ i. (w .carriers i, w .risers i, w .swaps-number i)) (serves (sheet-sound w) (w .serves));
+      eight = swaps-table w;
+    }
 
 pub refuses : {s : List ℕ} {number place : ℕ} {r : Head} {member allowed ends : List ℕ} {swaps : List (List ℕ)} (allowance : ℕ) (bytes sizes : List ℕ) → reader.Reads s 0 r member allowed ends swaps → r ≡ Head.Refused number place → Lists s allowance bytes sizes (left number place 0 0 0 bytes sizes)
-refuses {s} {number} {place} {member = member} {allowed = allowed} {ends = ends} {swaps = swaps} allowance bytes sizes R e = refused-reads s allowance number place bytes sizes (subst (λ (r : Head). reader.Reads s 0 r member allowed ends swaps) e R)
+refuses allowance bytes sizes R e = Lists.faulty (refused-as R e .0)
 
 module _ {s : List ℕ} {k n m : ℕ} {member allowed ends : List ℕ} {swaps : List (List ℕ)} (G : Given s k n m member allowed ends swaps) where
   pub given-riser : 0 < n

@@ -2,7 +2,8 @@
 --
 --   Tables                  the risers' lists, the rules' pairs and the rules that end at each riser, as three tables
 --   Flag P x                x is 1 if P holds, else 0
---   Ending X a b x          x is q + 1 if rule q, and no other, binds the risers a and b; 0 if none does
+--   Only X a b q, None X a b   rule q of the sheet X, and no other, binds the risers a and b; none does
+--   Ending X a b x          x is q + 1 if that is rule q, and 0 if there is none
 --   Serves X k n m T swaps  the tables T and the first m of `swaps` say what the sheet X says; k carriers, n risers
 --   Stands T p c            by the tables, the carrier c may follow the row p
 --   Tried T l p c           c stands after p, and is least in its orbit, as the orbit lengths l say
@@ -18,7 +19,7 @@ use Prim.Native.Nat.{ℕ, _+_, _*_, _-_, _≤_, _<_}
 use lib.ListN.{length, getD, take}
 use Rattle.ground.specs.Meanings.Exactly.{_∈_}
 use Rattle.ground.specs.Meanings.Group.{at}
-use Rattle.ground.specs.Meanings.Sheet.{Sheet, Rule, Pair, noRule, most-carriers, most-risers, most-pairs}
+use Rattle.ground.specs.Meanings.Sheet.{Sheet, Rule, noRule, most-carriers, most-risers, most-pairs}
 use Rattle.ground.specs.Meanings.Plans.{risers, list, Allows}
 use Rattle.ground.specs.Laws.Padding.{pad}
 use Rattle.ground.specs.Laws.Sheets.{Sound}
@@ -39,7 +40,6 @@ Flag P x = (P × (x ≡ 1)) ⊎ ((¬ P) × (x ≡ 0))
 abbrev pub rule : Sheet → ℕ → Rule
 rule X q = getD (X .rules) q noRule
 
--- the rule q binds the risers a and b, and no other rule does
 pub record Only (X : Sheet) (a b q : ℕ) : Type 0 where
   pub some : q < length (X .rules)
   pub left : rule X q .risers .left ≡ a

@@ -1,6 +1,7 @@
 -- What a run leaves: all visits counted and the plans written as far as there is room; or a stop at the allowance.
 --
 --   wholes n vs          the visits that have all n risers: the plans
+--   AllWhole n F         each row of F has n carriers
 --   written, noted       the lent rows and sizes after the plans F are listed, l having been listed before
 --
 -- Assumes nothing.
@@ -90,8 +91,8 @@ noted-full : (room : ℕ) (F : List Line) (l : ℕ) (sizes : List ℕ) → room 
 noted-full room [] l sizes h = refl
 noted-full room (v ∷ F) l sizes h = rw (le-ltb l room h) (noted-full room F (l + 1) sizes (omega arith))
 
-abbrev pub Whole : ℕ → List Line → Type 0
-Whole n F = (v : Line) → v ∈ F → length (v .row) ≡ n
+abbrev pub AllWhole : ℕ → List Line → Type 0
+AllWhole n F = (v : Line) → v ∈ F → length (v .row) ≡ n
 
 nothing-more : (l n : ℕ) (rows : List ℕ) → take (l * n) rows ++ ([] ++ drop ((l + 0) * n) rows) ≡ rows
 nothing-more l n rows = ap (λ (x : ℕ). take (l * n) rows ++ drop (x * n) rows) (plus-zero l) ∙ take-append-drop (l * n) rows
@@ -99,7 +100,7 @@ nothing-more l n rows = ap (λ (x : ℕ). take (l * n) rows ++ drop (x * n) rows
     plus-zero : (l : ℕ) → l + 0 ≡ l
     plus-zero l = omega arith
 
-written-from : (n room : ℕ) (F : List Line) (l : ℕ) (rows : List ℕ) → Whole n F → l ≤ room → room * n ≤ length rows
+written-from : (n room : ℕ) (F : List Line) (l : ℕ) (rows : List ℕ) → AllWhole n F → l ≤ room → room * n ≤ length rows
     → written n room F l rows ≡ take (l * n) rows ++ (flat (rowsOf (take (room - l) F)) ++ drop ((l + length (take (room - l) F)) * n) rows)
 written-from n room [] l rows long h fits =
     let e : _≡_ {A = List Line} (take (room - l) []) [] = take-nil (room - l) in
@@ -175,7 +176,7 @@ noted-from room (v ∷ F) l sizes h fits = go (decLt l room) (λ z a b. noted-fr
 
 -- ---- from the start, in the words of the listing
 
-flat-length : (n : ℕ) (F : List Line) → Whole n F → length (flat (rowsOf F)) ≡ length F * n
+flat-length : (n : ℕ) (F : List Line) → AllWhole n F → length (flat (rowsOf F)) ≡ length F * n
 flat-length n [] long = omega arith
 flat-length n (v ∷ F) long =
     let e = flat-length n F (λ x m. long x (List·Memᴰ·tail m)) in
@@ -186,7 +187,7 @@ take-mem zero l x m = absurd (List·Memᴰ·not-nil m)
 take-mem (suc j) [] x m = m
 take-mem (suc j) (y ∷ l) x m = elim (List·Memᴰ·cases-cons m) [ inl e ↦ List·Memᴰ·head e | inr t ↦ List·Memᴰ·tail (take-mem j l x t) ]
 
-pub written-is : (n room : ℕ) (F : List Line) (rows : List ℕ) → Whole n F → room * n ≤ length rows → written n room F 0 rows ≡ over (flat (rowsOf (take room F))) rows
+pub written-is : (n room : ℕ) (F : List Line) (rows : List ℕ) → AllWhole n F → room * n ≤ length rows → written n room F 0 rows ≡ over (flat (rowsOf (take room F))) rows
 written-is n room F rows long fits =
     let e : room - 0 ≡ room = omega arith in
     let z : 0 * n ≡ 0 = omega arith in

@@ -1,10 +1,11 @@
 -- What the tables of lists and of allowed pairs say of what was read, entry by entry.
 --
---   isAt f e l          some item of l has the number e, as f numbers them
---   putOne f base       an item entered: 1 at base and its number
---   putRow ..           the items of an entry entered, each in the row of that entry
+--   isAt f e l              some item of l has the number e, as f numbers them
+--   Carriers l              each of l is below 15
+--   CarrierPair x           both of the pair are below 15.        CarrierPairs x   each pair of the rule x is such a pair
 --
--- A table of rows that was 0 everywhere is 1 where an item was entered and 0 elsewhere (`table-at`).
+-- A table of rows that was 0 everywhere is 1 where an item was entered and 0 elsewhere (`table-bit`). So the table of lists says
+-- what the lists do (`listed-entry`, `listed-is`), and the table of allowed pairs what the rules do (`allowed-entry`, `allows-is`).
 -- Assumes nothing.
 use mathlib.Core.Path.{_≡_, refl, sym, ap, ap₂, _∙_, subst, fun-ext}
 use mathlib.Core.Bool.{Bool, true, false, cond, _&&_, _||_}

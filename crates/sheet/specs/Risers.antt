@@ -1,8 +1,8 @@
 -- The risers' section: one number, one list, all lists.
 --
---   Above least done            a carrier comes after those of `done` exactly if it is `least` or more
---   ListSoFar ..                the loop over a riser's carriers
---   RisersSoFar ..              the loop over the risers
+--   Above least done   a carrier comes after those of `done` exactly if it is `least` or more
+--   ListSoFar ..       the loop over a riser's carriers
+--   RisersSoFar ..     the loop over the risers
 --
 -- Assumes nothing.
 use mathlib.Core.Path.{_≡_, refl, sym, ap, _∙_, subst}

@@ -1,11 +1,11 @@
 -- What the tables of an accepted sheet say of it: what a caller needs, in place of the sheet's bytes.
 --
---   Serves X member allowed ends swaps   the four tables are those of the sheet X
---   Blank member allowed ends swaps      the four tables as they are before anything is read, and after a refusal
+--   Serves X member allowed ends swaps      the four tables are those of the sheet X
+--   Blank member allowed ends swaps         the four tables as they are before anything is read, and after a refusal
 --   Reads s p r member allowed ends swaps   r answers what the definition says of the sheet at place p of s, and the tables
 --                                           are those of the sheet, or blank where it is refused
---   bit b                                1 for yes, 0 for no
---   risersOf X q                         the two risers of rule q
+--   bit b                                   1 for yes, 0 for no
+--   risersOf X q                            the two risers of rule q
 --
 -- The rules that end at riser b stand in one row of `ends`, at b · 12 + a for the lower riser a: a rule's number and one, or 0.
 -- These are definitions: nothing is assumed or proved here.

@@ -9,6 +9,7 @@ use mathlib.Core.Path.{_≡_, refl, sym, ap, _∙_}
 use mathlib.Core.List.{List, [], _∷_, map}
 use Prim.Native.Nat.{ℕ, _+_, _≤_, _<_}
 use native.Mathlib.Omega.{arith}
+use borrow.Author.Count.{below-more}
 use lib.ListN.{length, set, length-set}
 use lib.Seq.{ext-getD, getD-set-other}
 use Rattle.ground.specs.Meanings.Group.{at, tab, mul, move}
@@ -37,6 +38,15 @@ module _ {f : ℕ → ℕ} {start out : List ℕ} {i : ℕ} (s : Filled f start 
         done = rw e (fill-more f out i l (s .done));
         rest = λ j m. getD-set-other out i j v 0 (λ (d : j ≡ i). omega arith) ∙ s .rest j (omega arith);
       }
+
+  -- a place that has its value from the start
+  pub filled-kept : i < length start → at start i ≡ f i → Filled f start out (i + 1)
+  filled-kept h e = record {
+    within = omega arith;
+    size = s .size;
+    done = below-more (λ j. at out j ≡ f j) i (s .done) (s .rest i (omega arith) ∙ e);
+    rest = λ j m. s .rest j (omega arith);
+  }
 
   pub filled-table : length start ≤ i → out ≡ tab (length start) f
   filled-table h =

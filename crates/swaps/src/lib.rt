@@ -46,7 +46,10 @@ pub fn product(p: [u8; 15], q: [u8; 15]) -> [u8; 15]
 {
     let mut r = [0u8; 15];
     for i in 0..Swap::WIDTH {
-        r[i] = taken(q, p[i]);
+        let c = p[i] as usize;
+        if c < Swap::WIDTH {
+            r[i] = q[c];
+        }
     }
     r
 }

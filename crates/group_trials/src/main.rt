@@ -1,0 +1,70 @@
+// Answers groups: for each group of the standard input one line, the orbit lengths along its chain.
+//
+// A group is one byte, the number of its swaps, and 15 bytes for each swap. A swap that is cut short is no permutation.
+ghost use mathlib.Core.Path.{_≡_};
+ghost use Prim.Native.Nat.{_≤_};
+ghost use lib.ListN.{length};
+use chain_lengths::chain_lengths;
+use libc::STDIN_FILENO;
+use libc::STDOUT_FILENO;
+
+// A byte as a number of swaps.
+fn wide(byte: u8) -> usize
+    ensures { λ r. ⌜ r ≡ byte ⌝ }
+    ensures { λ r. ⌜ r ≤ 255 ⌝ }
+{
+    byte as usize
+}
+
+// Reads a swap; bytes that are missing are no carriers.
+fn read_swap() -> [u8; 15] {
+    let mut swap = [15u8; 15];
+    io::read_full(STDIN_FILENO, &mut swap);
+    swap
+}
+
+// Reads this many swaps.
+fn read_swaps(count: usize) -> [[u8; 15]; 255]
+    requires { ⌜ count ≤ 255 ⌝ }
+    ensures { λ r. ⌜ length r ≡ 255 ⌝ }
+{
+    let mut swaps = [[15u8; 15]; 255];
+    for i in 0..count {
+        swaps[i] = read_swap();
+    }
+    swaps
+}
+
+// Writes the lengths with one space between two, and ends the line.
+fn write_lengths(lengths: [u8; 15]) {
+    for c in 0..15 {
+        io::print_decimal(STDOUT_FILENO, lengths[c] as u64);
+        let after = if c < 14 { b' ' } else { b'\n' };
+        io::write_all(STDOUT_FILENO, &[after]);
+    }
+}
+
+// Reads a group and writes its line; whether there was one.
+fn answer_group() -> bool {
+    let mut size = [0u8; 1];
+    if io::read_full(STDIN_FILENO, &mut size) == 0 {
+        return false;
+    }
+    let count = wide(size[0]);
+    let swaps = read_swaps(count);
+    let mut lengths = [0u8; 15];
+    if chain_lengths(&swaps[..count], &mut lengths) {
+        write_lengths(lengths);
+    } else {
+        io::write_all(STDOUT_FILENO, b"no permutation\n");
+    }
+    true
+}
+
+// Answers groups while there are some.
+fn main() {
+    let mut turns = u64::MAX;
+    while turns > 0 && answer_group() {
+        turns -= 1;
+    }
+}
