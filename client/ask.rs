@@ -42,8 +42,16 @@ fn fold(words: &mut Words) -> Result<String, String> {
     Ok(format!("{number} {place} {size} {} {}", hex(&first), hex(&member)))
 }
 
-/// Answers the lines of standard input. What is answered is written as soon as no further line stands ready.
+/// Answers the lines of standard input, and ends quietly where nobody reads the answers any more.
 fn main() -> io::Result<()> {
+    match answer_lines() {
+        Err(reason) if reason.kind() == io::ErrorKind::BrokenPipe => Ok(()),
+        ended => ended,
+    }
+}
+
+/// Answers line after line. What is answered is written as soon as no further line stands ready.
+fn answer_lines() -> io::Result<()> {
     let mut input = io::BufReader::with_capacity(1 << 16, io::stdin().lock());
     let mut output = io::BufWriter::with_capacity(1 << 16, io::stdout().lock());
     let mut line = Vec::new();

@@ -9,9 +9,10 @@ use text::put_number;
 // The most rows that may be opened.
 const ALLOWANCE: u64 = 1000000;
 
-// The lengths of the lists that are lent for the rows and for their class sizes.
+// The length of the list that is lent for the rows.
 const BYTES: usize = 24576;
 
+// The length of the list that is lent for their class sizes.
 const SIZES: usize = 2048;
 
 // More than the longest line has.
@@ -42,7 +43,7 @@ fn wide(byte: u8) -> usize {
     byte as usize
 }
 
-// The number of risers that a sheet states.
+// The number of risers that an accepted sheet states.
 fn risers(sheet: &[u8]) -> usize {
     if sheet.len() < 2 {
         return 0;
@@ -72,7 +73,8 @@ fn print_head(answer: Answer) {
     print_line(&mut line, at);
 }
 
-// Prints a line for each listed row.
+// Prints a line for each listed row. By the listing's promise every one lies within the lists; to test it again is shorter than to
+// use that.
 fn print_rows(bytes: &[u8], sizes: &[u64], risers: usize, listed: usize) {
     let mut line = [0u8; LINE];
     let mut start = 0;

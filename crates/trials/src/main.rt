@@ -24,15 +24,19 @@ use text::put_number;
 // The length of a question's head.
 const HEAD: usize = 16;
 
-// The most bytes that a sheet, a row and each lent list have here, and more than a line has.
+// The most bytes that a sheet has.
 const SHEET: usize = LONGEST + 1;
 
+// The most carriers that a row has here.
 const ROW: usize = 64;
 
+// The most bytes that a lent list or buffer has here.
 const BYTES: usize = 1024;
 
+// The most sizes that a lent list has here.
 const SIZES: usize = 128;
 
+// More than the longest line has.
 const LINE: usize = 8192;
 
 // More than there are questions.
@@ -166,13 +170,14 @@ fn print_folding(sheet: &[u8], row: &[u8], first: &mut [u8], member: &mut [u8]) 
     print_line(&mut line, at);
 }
 
-// A byte as an index, and as a number.
+// A byte as an index.
 fn wide(byte: u8) -> usize
     ensures { λ r. ⌜ r ≤ 255 ⌝ }
 {
     byte as usize
 }
 
+// A byte as a number.
 fn number(byte: u8) -> u64 {
     byte as u64
 }
