@@ -1,0 +1,6 @@
+-- What the tables of a sheet are, and what they say as masks.
+--
+--   Tables   a sheet as tables of numbers, and which carriers stand by them
+--   Books    the same as masks, and which carriers pass
+pub mod Tables
+pub mod Books
