@@ -77,22 +77,23 @@ module _ {B : Book} {d : ℕ} {p : List ℕ} {m next left : ℕ} (N : Narrowed B
         only = λ c h. let was = N .only c (b .shared c h .0) in (was .0, was .1, λ r l u. kept c (was .2) (b .shared c h .1) r l u (ℕ-discrete r next));
       }
 
+-- a carrier that passes goes with each rule, by its place
+pub passes-kept : {B : Book} {p : List ℕ} {c next : ℕ} → Passes B p c → next ≤ length p * most-risers + at (B .counts) (length p) → Kept B (length p) p next c
+passes-kept {p = p} s to r l u =
+    let place : r ≡ length p * most-risers + (r - length p * most-risers) = omega arith in
+    rw place (s .keeps (r - length p * most-risers) (omega arith))
+
 -- what stands after the row p, of the carriers of m: d is the row's length
 module _ {B : Book} {p : List ℕ} {m next left : ℕ} (N : Narrowed B (length p) p m next left) where
-  keeps : (c : ℕ) → Passes B p c → Kept B (length p) p next c
-  keeps c s r l u =
-      let place : r ≡ length p * most-risers + (r - length p * most-risers) = omega arith in
-      rw place (s .keeps (r - length p * most-risers) (omega (arith, N .to)))
-
   whole : length p * most-risers + at (B .counts) (length p) ≤ next → Standing B p m left
   whole end = record {
-    all = λ c h s. N .all c h (s .listed) (keeps c s);
+    all = λ c h s. N .all c h (s .listed) (passes-kept s (N .to));
     only = λ c h. let was = N .only c h in (was .0, record { listed = was .1; keeps = λ j l. was .2 (length p * most-risers + j) (omega arith) (omega arith) });
   }
 
   none : left ≡ 0 → Standing B p m 0
   none z = record {
-    all = λ c h s. rw z at (N .all c h (s .listed) (keeps c s));
+    all = λ c h s. rw z at (N .all c h (s .listed) (passes-kept s (N .to)));
     only = λ c h. absurd (has-none c h);
   }
 
