@@ -1,17 +1,21 @@
 -- Writing the book: its rules are put down one after another, riser by riser, and what is before the place of the next one stays.
 --
---   most-ends, most-masks   the places of the book's rules, and of their masks
---   FewAt d ends            no number that the table of ends has for riser d is above that of the last rule
---   Alike n l m             the lists l and m are equally long, and the same up to place n
---   Masked k allowed q rule u old new      the masks of rule q are written at the place `rule` for the first u carriers of its other
---                           riser, where `old` were the masks
---   Rule k allowed ends d e others masks r     at the place r of the book stands a rule of the table that ends at d and starts before e
---   Written k allowed ends d e next ..     the rules that end at d and start before e stand before the place `next`, from d · 12 on
---   Page k T B d            the book has the list and the rules of riser d
+--   most-ends, most-masks           how many places the book has for rules, and how many for their masks
+--   FewAt d ends                    no number that the table of ends has for riser d is above that of the last rule
+--   Alike n l m                     the lists l and m are equally long, and the same up to place n
+--   Masked k allowed q r u old new  the masks of rule q are written at place r, for the first u carriers of its other riser; `old` and
+--                                   `new` are all masks before and after
+--   Rule k allowed ends d e .. r    what stands at place r of the book is a rule that binds d and a riser before e, with its masks
+--   Rules k allowed ends d e next ..   all these rules, and no others, stand from d · 12 on and before the place `next`
+--   Written ..                      the same, and what was written for the risers before d is still there
+--   Page k T B d                    the book B has the list and the rules that the tables T have for riser d
+--   Pages k T d B                   it has those of each riser before d
+--   blank, bookWith B d m j ..      nothing is written; the book with riser d's list m and its j rules
 --
--- A book that has the pages of all risers says what the tables say (`pages-show`).
+-- A turn of each loop is a law: `masked-more`; `written-none` and `written-more`; `pages-more`. A book that has the pages of all
+-- risers says what the tables say (`pages-show`).
 -- Assumes nothing.
-use mathlib.Core.Path.{_≡_, refl, sym, ap, subst, _∙_}
+use mathlib.Core.Path.{_≡_, refl, sym, _∙_}
 use mathlib.Core.List.{List}
 use Prim.Native.Nat.{ℕ, _+_, _*_, _-_, _≤_, _<_}
 use native.Mathlib.Decide.{ℕ-discrete}
@@ -22,7 +26,7 @@ use Rattle.ground.specs.Meanings.Group.{at}
 use Rattle.ground.specs.Meanings.Sheet.{most-carriers, most-risers, most-rules, most-pairs}
 use Rattle.ground.specs.Laws.Lists.{mem-at}
 use Rattle.ground.specs.Laws.Rows.{Below}
-use Rattle.masks.specs.Masks.{Has, Marked}
+use Rattle.masks.specs.Masks.{Marked}
 use Rattle.rules.specs.Tables.{Tables, Stands}
 use Rattle.rules.specs.Books.{Book, book, Passes, Shows}
 use Rattle.rules.specs.Narrowing.{passes-kept}

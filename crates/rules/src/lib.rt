@@ -1,8 +1,8 @@
 // The rules that a row must keep, as masks: what a sheet's tables say, written so that a rule is asked once for all carriers.
 //
 // For each riser stand a mask of its list, and the rules that end there, one after another: for each the other riser, and for each
-// carrier of that riser the mask of the carriers that go with it. `write_book` writes all this, and `standing` reads it: the carriers that
-// may follow a row. What the two promise is in specs/Books.antt, what the sheet's tables are in specs/Tables.antt.
+// carrier of that riser the mask of the carriers that go with it. `write_book` writes all this, and `standing` reads it: the carriers
+// that may follow a row. What the two promise is in specs/Books.antt, what the sheet's tables are in specs/Tables.antt.
 ghost use mathlib.Core.Path.{_≡_};
 ghost use Prim.Native.Nat.{_+_, _*_, _≤_, _<_};
 ghost use lib.ListN.{length, take};
@@ -81,7 +81,7 @@ fn write_rules<'a>(
     rule - first
 }
 
-// Writes what the tables say of the lists and the rules.
+// Writes what the tables say of the lists and the rules, into a book that is blank first.
 pub fn write_book<'a>(
     carriers: usize,
     risers: usize,
