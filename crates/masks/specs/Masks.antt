@@ -9,8 +9,8 @@
 --   Marked l from k r       r has the carriers below k whose entry in l, from the place `from` on, is not 0
 --
 -- What two masks share, what either has and what one carrier makes are told by `has-and`, `has-or` and `has-one`. A mask of w
--- bits has carriers below w alone (`has-below`) and is settled by them (`mask-same`, `none-empty`). The last part has the law
--- behind each function on masks.
+-- bits has carriers below w alone (`has-below`) and is settled by them (`mask-same`, `none-empty`). Each carrier of a mask is the
+-- least or after it (`rest-or-least`). Each function has the law that its promise is read from.
 -- Assumes nothing.
 use mathlib.Core.Path.{_≡_, refl, sym, ap, _∙_}
 use mathlib.Core.Bool.{Bool, true, false}
@@ -64,22 +64,26 @@ pub record Marked (l : List ℕ) (from k r : ℕ) : Type 0 where
 
 -- ---- the lowest digit, and the digits above it
 
-lowest : (m : ℕ) → m / 2 ^ 0 % 2 ≡ m % 2
-lowest m = ap (λ (x : ℕ). x % 2) (div-one m)
+-- the digit of m that says whether c is in
+abbrev digit : ℕ → ℕ → ℕ
+digit m c = m / 2 ^ c % 2
 
-above : (m c : ℕ) → m / 2 ^ suc c % 2 ≡ m / 2 / 2 ^ c % 2
-above m c = ap (λ (x : ℕ). x % 2) (ap (λ (x : ℕ). m / 2 ^ x) (sym (one-add c)) ∙ sym (shr-shr m 1 c))
+digit-low : (m : ℕ) → digit m 0 ≡ m % 2
+digit-low m = ap (λ (x : ℕ). x % 2) (div-one m)
+
+digit-high : (m c : ℕ) → digit m (suc c) ≡ digit (m / 2) c
+digit-high m c = ap (λ (x : ℕ). x % 2) (ap (λ (x : ℕ). m / 2 ^ x) (sym (one-add c)) ∙ sym (shr-shr m 1 c))
 
 pub has-low : (m : ℕ) → Has m 0 ↔ (m % 2 ≡ 1)
-has-low m = (λ h. sym (lowest m) ∙ h .bit, λ e. record { bit = lowest m ∙ e })
+has-low m = (λ h. sym (digit-low m) ∙ h .bit, λ e. record { bit = digit-low m ∙ e })
 
 pub has-high : (m c : ℕ) → Has m (suc c) ↔ Has (m / 2) c
-has-high m c = (λ h. record { bit = sym (above m c) ∙ h .bit }, λ h. record { bit = above m c ∙ h .bit })
+has-high m c = (λ h. record { bit = sym (digit-high m c) ∙ h .bit }, λ h. record { bit = digit-high m c ∙ h .bit })
 
 -- ---- of any mask
 
 pub has-dec : (m c : ℕ) → Has m c ⊎ ¬ Has m c
-has-dec m c = elim (ℕ-discrete (m / 2 ^ c % 2) 1) [ yes e ↦ inl (record { bit = e }) | no f ↦ inr (λ h. f (h .bit)) ]
+has-dec m c = elim (ℕ-discrete (digit m c) 1) [ yes e ↦ inl (record { bit = e }) | no f ↦ inr (λ h. f (h .bit)) ]
 
 pub has-below : (w : ℕ) {m c : ℕ} → m < 2 ^ w → Has m c → c < w
 has-below w {m} {c} l h = elim (decLt c w) [ yes b ↦ b | no f ↦ absurd (beyond (omega arith)) ]
@@ -95,49 +99,59 @@ has-none c h = omega (arith, has-below 0 (let l : 0 < 2 ^ 0 = omega arith in l) 
 pub has-some : {m c : ℕ} → Has m c → 0 < m
 has-some {m} {c} h = elim (decLt 0 m) [ yes l ↦ l | no f ↦ absurd (has-none c (rw (let e : m ≡ 0 = omega arith in e) at h)) ]
 
+low-same : (a b : ℕ) → (Has a 0 → Has b 0) → (Has b 0 → Has a 0) → a % 2 ≡ b % 2
+low-same a b f g = go (ℕ-discrete (a % 2) 1) (ℕ-discrete (b % 2) 1)
+  where
+    go : Dec (a % 2 ≡ 1) → Dec (b % 2 ≡ 1) → a % 2 ≡ b % 2
+    go (yes e) d = omega (arith, has-low b .0 (f (has-low a .1 e)))
+    go (no n) (yes e) = omega (arith, has-low a .0 (g (has-low b .1 e)))
+    go (no n) (no o) = omega arith
+
+-- carriers of a are carriers of b, and so it is above the lowest
+high-sub : (a b : ℕ) → ((c : ℕ) → Has a c → Has b c) → (c : ℕ) → Has (a / 2) c → Has (b / 2) c
+high-sub a b f c h = has-high b c .0 (f (suc c) (has-high a c .1 h))
+
 pub mask-same : (w a b : ℕ) → a < 2 ^ w → b < 2 ^ w → ((c : ℕ) → Has a c → Has b c) → ((c : ℕ) → Has b c → Has a c) → a ≡ b
 mask-same zero a b la lb f g = omega arith
 mask-same (suc w) a b la lb f g =
-    let high : a / 2 ≡ b / 2 = mask-same w (a / 2) (b / 2) (omega (arith, pow-suc 2 w)) (omega (arith, pow-suc 2 w)) (λ c h. has-high b c .0 (f (suc c) (has-high a c .1 h))) (λ c h. has-high a c .0 (g (suc c) (has-high b c .1 h))) in
-    let there : a % 2 ≡ 1 → b % 2 ≡ 1 = λ e. has-low b .0 (f 0 (has-low a .1 e)) in
-    let back : b % 2 ≡ 1 → a % 2 ≡ 1 = λ e. has-low a .0 (g 0 (has-low b .1 e)) in
-    elim (ℕ-discrete (a % 2) 1) [ yes e ↦ omega (arith, there e) | no n ↦ elim (ℕ-discrete (b % 2) 1) [ yes e ↦ omega (arith, back e) | no o ↦ omega arith ] ]
+    let high = mask-same w (a / 2) (b / 2) (omega (arith, pow-suc 2 w)) (omega (arith, pow-suc 2 w)) (high-sub a b f) (high-sub b a g) in
+    omega (arith, low-same a b (f 0) (g 0))
 
 pub none-empty : (w m : ℕ) → m < 2 ^ w → ((c : ℕ) → ¬ Has m c) → m ≡ 0
 none-empty w m l f = mask-same w m 0 l (omega arith) (λ c h. absurd (f c h)) (λ c h. absurd (has-none c h))
 
 -- ---- both, either, one
 
-bit-and : (a b c : ℕ) → bitAnd a b / 2 ^ c % 2 ≡ min (a / 2 ^ c % 2) (b / 2 ^ c % 2)
-bit-and a b c = ap (λ (x : ℕ). x % 2) (and-shr a b c ∙ and-step (a / 2 ^ c) (b / 2 ^ c)) ∙ digits-mod _ (omega (arith, min-le-left (a / 2 ^ c % 2) (b / 2 ^ c % 2)))
+bit-and : (a b c : ℕ) → digit (bitAnd a b) c ≡ min (digit a c) (digit b c)
+bit-and a b c = ap (λ (x : ℕ). x % 2) (and-shr a b c ∙ and-step (a / 2 ^ c) (b / 2 ^ c)) ∙ digits-mod _ (omega (arith, min-le-left (digit a c) (digit b c)))
 
 pub has-and : (a b c : ℕ) → Has (bitAnd a b) c ↔ (Has a c × Has b c)
 has-and a b c = (λ h. there (sym (bit-and a b c) ∙ h .bit), λ h. record { bit = bit-and a b c ∙ rw (h .0 .bit, h .1 .bit) })
   where
-    there : min (a / 2 ^ c % 2) (b / 2 ^ c % 2) ≡ 1 → Has a c × Has b c
+    there : min (digit a c) (digit b c) ≡ 1 → Has a c × Has b c
     there e = (
-      record { bit = omega (arith, min-le-left (a / 2 ^ c % 2) (b / 2 ^ c % 2)) },
-      record { bit = omega (arith, min-le-right (a / 2 ^ c % 2) (b / 2 ^ c % 2)) },
+      record { bit = omega (arith, min-le-left (digit a c) (digit b c)) },
+      record { bit = omega (arith, min-le-right (digit a c) (digit b c)) },
     )
 
-either-le : (a b c : ℕ) → max (a / 2 ^ c % 2) (b / 2 ^ c % 2) ≤ 1
+either-le : (a b c : ℕ) → max (digit a c) (digit b c) ≤ 1
 either-le a b c = max-le (omega arith) (omega arith)
 
-bit-or : (a b c : ℕ) → bitOr a b / 2 ^ c % 2 ≡ max (a / 2 ^ c % 2) (b / 2 ^ c % 2)
+bit-or : (a b c : ℕ) → digit (bitOr a b) c ≡ max (digit a c) (digit b c)
 bit-or a b c = ap (λ (x : ℕ). x % 2) (or-shr a b c ∙ or-step (a / 2 ^ c) (b / 2 ^ c)) ∙ digits-mod _ (omega (arith, either-le a b c))
 
 pub has-or : (a b c : ℕ) → Has (bitOr a b) c ↔ (Has a c ⊎ Has b c)
 has-or a b c = (λ h. there (has-dec a c) (sym (bit-or a b c) ∙ h .bit), λ h. record { bit = bit-or a b c ∙ back h })
   where
-    there : Has a c ⊎ ¬ Has a c → max (a / 2 ^ c % 2) (b / 2 ^ c % 2) ≡ 1 → Has a c ⊎ Has b c
+    there : Has a c ⊎ ¬ Has a c → max (digit a c) (digit b c) ≡ 1 → Has a c ⊎ Has b c
     there (inl h) e = inl h
     there (inr f) e =
-        let f : ¬ (a / 2 ^ c % 2 ≡ 1) = λ e. f (record { bit = e }) in
-        inr (record { bit = omega (arith, max-add-min (a / 2 ^ c % 2) (b / 2 ^ c % 2), min-le-left (a / 2 ^ c % 2) (b / 2 ^ c % 2)) })
+        let f : ¬ (digit a c ≡ 1) = λ e. f (record { bit = e }) in
+        inr (record { bit = omega (arith, max-add-min (digit a c) (digit b c), min-le-left (digit a c) (digit b c)) })
 
-    back : Has a c ⊎ Has b c → max (a / 2 ^ c % 2) (b / 2 ^ c % 2) ≡ 1
-    back (inl h) = omega (arith, either-le a b c, le-max-left (a / 2 ^ c % 2) (b / 2 ^ c % 2))
-    back (inr h) = omega (arith, either-le a b c, le-max-right (a / 2 ^ c % 2) (b / 2 ^ c % 2))
+    back : Has a c ⊎ Has b c → max (digit a c) (digit b c) ≡ 1
+    back (inl h) = omega (arith, either-le a b c, le-max-left (digit a c) (digit b c))
+    back (inr h) = omega (arith, either-le a b c, le-max-right (digit a c) (digit b c))
 
 pub has-one : (c i : ℕ) → Has (2 ^ c) i ↔ (i ≡ c)
 has-one c i = (there c i, λ e. rw e (itself c))
@@ -160,8 +174,8 @@ has-one c i = (there c i, λ e. rw e (itself c))
 
 -- ---- the law behind each function
 
-pub tells-bit : (m c : ℕ) → Tells (eqb (m / 2 ^ c % 2) 1) (Has m c)
-tells-bit m c = record { yes = λ e. record { bit = eqb-true (m / 2 ^ c % 2) 1 e }; no = λ e h. eqb-false (m / 2 ^ c % 2) 1 e (h .bit) }
+pub tells-bit : (m c : ℕ) → Tells (eqb (digit m c) 1) (Has m c)
+tells-bit m c = record { yes = λ e. record { bit = eqb-true (digit m c) 1 e }; no = λ e h. eqb-false (digit m c) 1 e (h .bit) }
 
 pub both-and : (a b : ℕ) → Both a b (bitAnd a b)
 both-and a b = record { shared = λ c. has-and a b c .0; all = λ c f g. has-and a b c .1 (f, g) }
@@ -221,27 +235,47 @@ lower-even m p f =
     let f : ¬ (m % 2 ≡ 1) = λ e. f (has-low m .1 e) in
     lower-half m ∙ ap (bitAnd (m / 2)) (let e : (m - 1) / 2 ≡ m / 2 - 1 = omega arith in e)
 
-lower-after : (m c i : ℕ) → Has m c → ((j : ℕ) → j < c → ¬ Has m j) → Has (lower m) i → c < i
-lower-after m c zero has none h = absurd (lower-low m (has-some has) h)
-lower-after m zero (suc i) has none h = omega arith
-lower-after m (suc c) (suc i) has none h =
-    let deeper : c < i = lower-after (m / 2) c i (has-high m c .0 has) (λ j l g. none (suc j) (omega arith) (has-high m j .1 g)) (rw (lower-even m (has-some has) (none 0 (omega arith))) at (has-high (lower m) i .0 h)) in
-    omega arith
+least-half : {m c : ℕ} → Least m (suc c) → Least (m / 2) c
+least-half {m} {c} s = record { below = omega arith; has = has-high m c .0 (s .has); none = λ i l h. s .none (suc i) (omega arith) (has-high m i .1 h) }
 
-lower-all : (m c i : ℕ) → Has m c → ((j : ℕ) → j < c → ¬ Has m j) → Has m i → c < i → Has (lower m) i
-lower-all m c zero has none h l = absurd (omega arith)
-lower-all m zero (suc i) has none h l = has-high (lower m) i .1 (rw (lower-odd m has) (has-high m i .0 h))
-lower-all m (suc c) (suc i) has none h l =
-    has-high (lower m) i .1 (rw (lower-even m (has-some has) (none 0 (omega arith)))
-    (lower-all (m / 2) c i (has-high m c .0 has) (λ j l g. none (suc j) (omega arith) (has-high m j .1 g)) (has-high m i .0 h) (omega arith)))
+lower-deep : {m c : ℕ} → Least m (suc c) → lower m / 2 ≡ lower (m / 2)
+lower-deep {m} s = lower-even m (has-some (s .has)) (s .none 0 (omega arith))
+
+lower-after : (m c i : ℕ) → Least m c → Has (lower m) i → c < i
+lower-after m c zero s h = absurd (lower-low m (has-some (s .has)) h)
+lower-after m zero (suc i) s h = omega arith
+lower-after m (suc c) (suc i) s h = omega (arith, lower-after (m / 2) c i (least-half s) (rw (lower-deep s) at (has-high (lower m) i .0 h)))
+
+lower-all : (m c i : ℕ) → Least m c → Has m i → c < i → Has (lower m) i
+lower-all m c zero s h l = absurd (omega arith)
+lower-all m zero (suc i) s h l = has-high (lower m) i .1 (rw (lower-odd m (s .has)) (has-high m i .0 h))
+lower-all m (suc c) (suc i) s h l = has-high (lower m) i .1 (rw (lower-deep s) (lower-all (m / 2) c i (least-half s) (has-high m i .0 h) (omega arith)))
 
 pub rest-and : (m : ℕ) → 0 < m → Rest m (bitAnd m (m - 1))
 rest-and m p = record {
   only = λ i h. has-and m (m - 1) i .0 h .0;
-  after = λ i h c l. lower-after m c i (l .has) (l .none) h;
-  all = λ i c l h. lower-all m c i (l .has) (l .none) h;
+  after = λ i h c s. lower-after m c i s h;
+  all = λ i c s. lower-all m c i s;
   less = omega (arith, and-le-r m (m - 1));
 }
+
+-- ---- the least carrier and those after it are all
+
+pub least-one : {m c d : ℕ} → Least m c → Least m d → c ≡ d
+least-one {m} {c} {d} s t = go (decLt c d) (decLt d c)
+  where
+    go : Dec (c < d) → Dec (d < c) → c ≡ d
+    go (yes l) e = absurd (t .none c l (s .has))
+    go (no n) (yes l) = absurd (s .none d l (t .has))
+    go (no n) (no o) = omega arith
+
+pub rest-or-least : {m c r i : ℕ} → Least m c → Rest m r → Has m i → (i ≡ c) ⊎ Has r i
+rest-or-least {m} {c} {r} {i} s t h = go (decLt i c) (decLt c i)
+  where
+    go : Dec (i < c) → Dec (c < i) → (i ≡ c) ⊎ Has r i
+    go (yes l) e = absurd (s .none i l h)
+    go (no n) (yes l) = inr (t .all i c s h l)
+    go (no n) (no o) = inl (omega arith)
 
 -- ---- marking, entry by entry
 
