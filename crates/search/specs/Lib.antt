@@ -1,5 +1,4 @@
 pub mod Visits
-pub mod Tables
 pub mod Weights
 pub mod Search
 pub mod Runs
