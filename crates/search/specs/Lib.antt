@@ -14,4 +14,4 @@ pub mod Answering
 pub mod Finishing
 pub mod Trying
 pub mod Starting
-pub mod Copying
+pub mod Pieces
