@@ -3,8 +3,8 @@ pub mod Weights
 pub mod Search
 pub mod Runs
 pub mod Budgets
-pub mod Standing
-pub mod Levels
+pub mod Rows
+pub mod Fitting
 pub mod OnSheet
 pub mod Joins
 pub mod Openings
@@ -14,4 +14,4 @@ pub mod Answering
 pub mod Finishing
 pub mod Trying
 pub mod Starting
-pub mod Copying
+pub mod Pieces
