@@ -31,7 +31,7 @@ slice-aggregate-search : tie.Need-slice-aggregate-search
 slice-aggregate-search c = search needs
 
 search-requires : tie.Need-search-requires
-search-requires c κs = ready (accepted (c .before .before .before .before .before .before .before .before .before)) _ _ _ _ refl refl (c .before .before .before .before .before .before .before .room .ensures) (search needs)
+search-requires c κs = ready (accepted (c .before .before .before .before .before .before .before .before .before)) _ _ _ _ _ refl refl (c .before .before .before .before .before .before .before .before .before .room .ensures) (search needs) (search needs) (search needs) (search needs)
 
 settle-requires : tie.Need-settle-requires
 settle-requires c κs = search needs
