@@ -25,8 +25,8 @@ use Rattle.sheet.specs.Serves as reader
 use Rattle.sheet.specs.Callers.{accepted-as, refused-as, sheet-sound, swaps-table}
 use Rattle.search.specs.declared.Limits.{Limits}
 use Rattle.search.specs.Visits.{State}
-use Rattle.search.specs.Tables.{tables, Serves}
-use Rattle.search.specs.Answer.{Ready, Answer, Searches, most-stored}
+use Rattle.rules.specs.Tables.{tables, Serves}
+use Rattle.search.specs.Answer.{Ready, Answer, Searches, most-levels, most-stored}
 use Rattle.search.specs.OnSheet.{serves-few, serves-perms}
 use Rattle.listing.specs.Serving.{serves}
 
@@ -55,9 +55,9 @@ module _ {s : List ℕ} {k n m : ℕ} {member allowed ends : List ℕ} {swaps : 
   pub given-riser : 0 < n
   given-riser = omega (arith, G .serves .risers, G .serves .sound .some-riser)
 
-  pub ready : (z : Limits) (store : List (List ℕ)) (rows sizes : List ℕ) → z .carriers ≡ k → z .risers ≡ n → z .room ≡ min (length rows / n) (length sizes) → most-stored ≤ length store
-      → Ready z m (tables member allowed ends) swaps store rows sizes
-  ready z store rows sizes ek en er h =
+  pub ready : (z : Limits) (levels store : List (List ℕ)) (rows sizes : List ℕ) → z .carriers ≡ k → z .risers ≡ n → z .room ≡ min (length rows / n) (length sizes)
+      → most-levels ≤ length levels → length levels < 65536 → most-stored ≤ length store → length store < 65536 → Ready z m (tables member allowed ends) swaps levels store rows sizes
+  ready z levels store rows sizes ek en er hl sl hs ss =
       let Y = G .serves in
       let Z = Y .sound in
       let d = div-mul-le-self (length rows) n in
@@ -70,7 +70,10 @@ module _ {s : List ℕ} {k n m : ℕ} {member allowed ends : List ℕ} {swaps : 
         few = omega (arith, Y .counted, Z .few-swaps);
         perms = serves-perms Y;
         swaps-length = G .eight;
-        store-length = h;
+        levels-length = hl;
+        levels-short = sl;
+        store-length = hs;
+        store-short = ss;
         room-rows = le-trans (subst (λ (j : ℕ). z .room * j ≤ length rows / n * n) (sym en) (mul-le-mul-right n low)) d;
         room-sizes = omega arith;
       }
