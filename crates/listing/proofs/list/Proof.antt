@@ -1,9 +1,7 @@
 -- `listing::list` meets its contract. The reader's tables serve the search, and what the search leaves settles the answer.
 use mathlib.Core.Path.{refl}
 use borrow.Author.Needs.{needs}
-use native.Mathlib.Omega.{arith}
 use denote.Ref.{now}
-use Rattle.search.specs.Search.{stateOf}
 use Rattle.listing.specs.Settling.{Given, given, refuses, given-riser, ready, settles}
 use Rattle.listing.proofs.list.Statement.{statement}
 use Rattle.listing.proofs.list.Tie as tie
