@@ -26,8 +26,8 @@ use Rattle.sheet.specs.Callers.{accepted-as, refused-as, sheet-sound, swaps-tab
 use Rattle.search.specs.declared.Limits.{Limits}
 use Rattle.search.specs.Visits.{State}
 use Rattle.rules.specs.Tables.{tables, Serves}
-use Rattle.search.specs.Answer.{Ready, Answer, Searches, most-levels, most-stored}
-use Rattle.search.specs.OnSheet.{serves-few, serves-perms}
+use Rattle.search.specs.Answer.{Ready, Answer, Searches}
+use Rattle.search.specs.Answering.{serves-ready}
 use Rattle.listing.specs.Serving.{serves}
 
 -- ---- from the reader to the search
@@ -55,28 +55,14 @@ module _ {s : List ℕ} {k n m : ℕ} {member allowed ends : List ℕ} {swaps : 
   pub given-riser : 0 < n
   given-riser = omega (arith, G .serves .risers, G .serves .sound .some-riser)
 
-  pub ready : (z : Limits) (levels store : List (List ℕ)) (rows sizes : List ℕ) → z .carriers ≡ k → z .risers ≡ n → z .room ≡ min (length rows / n) (length sizes)
-      → most-levels ≤ length levels → length levels < 65536 → most-stored ≤ length store → length store < 65536 → Ready z m (tables member allowed ends) swaps levels store rows sizes
-  ready z levels store rows sizes ek en er hl sl hs ss =
-      let Y = G .serves in
-      let Z = Y .sound in
-      let d = div-mul-le-self (length rows) n in
+  -- the same, with the numbers as the search has them
+  served : (z : Limits) → z .carriers ≡ k → z .risers ≡ n → Serves (G .sheet) (z .carriers) (z .risers) m (tables member allowed ends) swaps
+  served z ek en = subst (λ (p : ℕ × ℕ). Serves (G .sheet) (p .0) (p .1) m (tables member allowed ends) swaps) (λ i. (sym ek i, sym en i)) (G .serves)
+
+  pub ready : (z : Limits) (rows sizes : List ℕ) → z .carriers ≡ k → z .risers ≡ n → z .room ≡ min (length rows / n) (length sizes) → Ready z m (tables member allowed ends) swaps rows sizes
+  ready z rows sizes ek en er =
       let low : z .room ≤ length rows / n = omega arith in
-      record {
-        wide = omega (arith, Y .carriers, Z .few-carriers);
-        some = omega (arith, given-riser);
-        high = omega (arith, Y .risers, Z .few-risers);
-        rules = λ a b l f. serves-few Y a b l (omega arith);
-        few = omega (arith, Y .counted, Z .few-swaps);
-        perms = serves-perms Y;
-        swaps-length = G .eight;
-        levels-length = hl;
-        levels-short = sl;
-        store-length = hs;
-        store-short = ss;
-        room-rows = le-trans (subst (λ (j : ℕ). z .room * j ≤ length rows / n * n) (sym en) (mul-le-mul-right n low)) d;
-        room-sizes = omega arith;
-      }
+      serves-ready rows sizes (served z ek en) (G .eight) (le-trans (subst (λ (j : ℕ). z .room * j ≤ length rows / n * n) (sym en) (mul-le-mul-right n low)) (div-mul-le-self (length rows) n)) (omega arith)
 
 -- ---- from the search to the answer
 
@@ -127,9 +113,8 @@ pub settles : (s : List ℕ) (z : Limits) {k n m : ℕ} {member allowed ends : L
 unfolding room
 settles s z {k} {n} {m} {member} {allowed} {ends} {swaps} rows sizes v o G ek en er S lr lz e =
     let X = G .sheet in
-    let Y : Serves X (z .carriers) (z .risers) m (tables member allowed ends) swaps = subst (λ (p : ℕ × ℕ). Serves X (p .0) (p .1) m (tables member allowed ends) swaps) (λ i. (sym ek i, sym en i)) (G .serves) in
     let q : z .room ≡ min (length rows / risers X) (length sizes) = er ∙ ap (λ (j : ℕ). min (length rows / j) (length sizes)) (sym (G .serves .risers)) in
-    Lists.sheet (G .accepted) (subst (ListsOn X (z .allowance) rows sizes) (sym e) (settles-on X (z .allowance) rows sizes v (z .room) q (S .answers X Y) lr lz))
+    Lists.sheet (G .accepted) (subst (ListsOn X (z .allowance) rows sizes) (sym e) (settles-on X (z .allowance) rows sizes v (z .room) q (S .answers X (served G z ek en)) lr lz))
 
 -- ---- the three answers
 

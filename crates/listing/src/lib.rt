@@ -11,15 +11,6 @@ use search::Limits;
 use search::Tally;
 use sheet::Head;
 
-// The levels that are remembered at most.
-const LEVELS: usize = 300;
-
-// The swaps that are remembered for them.
-const STORED: usize = 4096;
-
-// The sets of carriers.
-const SETS: usize = 32768;
-
 // The answer: the number of the refusal and its place, both 0 where there is none; how many plans are listed, how many rows were
 // opened, and how many plans there are.
 pub struct Answer {
@@ -117,9 +108,6 @@ pub fn list(sheet: &[u8], allowance: u64, bytes: &mut [u8], sizes: &mut [u64]) -
                 room: room,
                 allowance: allowance,
             };
-            let mut levels = [[0u16; levels::ENTRY]; LEVELS];
-            let mut store = [[0u8; ground::CARRIERS]; STORED];
-            let mut index = [0u16; SETS];
             let t = search::search(
                 limits,
                 &member,
@@ -127,9 +115,6 @@ pub fn list(sheet: &[u8], allowance: u64, bytes: &mut [u8], sizes: &mut [u64]) -
                 &ends,
                 &swaps,
                 declared,
-                &mut levels,
-                &mut store,
-                &mut index,
                 bytes,
                 sizes,
             );

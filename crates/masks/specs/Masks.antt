@@ -6,7 +6,6 @@
 --   With m c r              r has the carriers of m, and c
 --   Least m c               c is the least carrier of m, and below 16
 --   Rest m r                r has the carriers of m after the least one
---   NextIn m from c         c is the least carrier of m from `from` on, or 16
 --   Marked l from k r       r has the carriers below k whose entry in l, from the place `from` on, is not 0
 --
 -- What two masks share, what either has and what one carrier makes are told by `has-and`, `has-or` and `has-one`. A mask of w
@@ -58,12 +57,6 @@ pub record Rest (m r : ℕ) : Type 0 where
   pub after : (i : ℕ) → Has r i → (c : ℕ) → Least m c → c < i
   pub all : (i c : ℕ) → Least m c → Has m i → c < i → Has r i
   pub less : r < m
-
-pub record NextIn (m from c : ℕ) : Type 0 where
-  pub after : from ≤ c
-  pub within : c ≤ 16
-  pub none : (i : ℕ) → from ≤ i → i < c → ¬ Has m i
-  pub found : c < 16 → Has m c
 
 pub record Marked (l : List ℕ) (from k r : ℕ) : Type 0 where
   pub only : (c : ℕ) → Has r c → (c < k) × ¬ (at l (from + c) ≡ 0)
@@ -223,34 +216,6 @@ trailing-none (suc k) m i l h = go (m % 2) i refl l (λ i. trailing-none k (m / 
 
 pub least-trailing : (m : ℕ) → 0 < m → m < 2 ^ 16 → Least m (trailingZeros 16 m)
 least-trailing m p l = record { below = has-below 16 l (trailing-has 16 m p l); has = trailing-has 16 m p l; none = trailing-none 16 m }
-
--- the carriers from a place on are those of the mask shifted down
-shifted : (m from i : ℕ) → Has (m / 2 ^ from) i ↔ Has m (from + i)
-shifted m from i =
-    let e : digit (m / 2 ^ from) i ≡ digit m (from + i) = ap (λ (x : ℕ). x % 2) (shr-shr m from i) in
-    (λ h. record { bit = sym e ∙ h .bit }, λ h. record { bit = e ∙ h .bit })
-
-beyond : (m from i : ℕ) → from ≤ i → Has m i → Has (m / 2 ^ from) (i - from)
-beyond m from i l h = shifted m from (i - from) .1 (rw (let e : from + (i - from) ≡ i = omega arith in e) h)
-
-pub next-none : {m from : ℕ} → from < 16 → m < 2 ^ 16 → m / 2 ^ from ≡ 0 → NextIn m from 16
-next-none {m} {from} b l e = record {
-  after = omega arith;
-  within = omega arith;
-  none = λ i f g h. has-none (i - from) (rw e at (beyond m from i f h));
-  found = λ f. absurd (omega arith);
-}
-
-pub next-some : {m from c : ℕ} → m < 2 ^ 16 → Least (m / 2 ^ from) c → NextIn m from (from + c)
-next-some {m} {from} {c} l s =
-    let has = shifted m from c .0 (s .has) in
-    let below = has-below 16 l has in
-    record {
-      after = omega arith;
-      within = omega arith;
-      none = λ i f g h. s .none (i - from) (omega arith) (beyond m from i f h);
-      found = λ f. has;
-    }
 
 -- a mask and the number before it share the digits above the lowest that is set
 abbrev lower : ℕ → ℕ

@@ -3,7 +3,7 @@
 ghost use mathlib.Core.Path.{_≡_};
 ghost use Prim.Native.Nat.{_+_, _<_, _≤_};
 ghost use lib.ListN.{length};
-ghost use Rattle.masks.specs.Masks.{Has, Tells, Both, With, Least, Rest, NextIn, Marked};
+ghost use Rattle.masks.specs.Masks.{Has, Tells, Both, With, Least, Rest, Marked};
 
 // Whether carrier c is in the mask.
 pub fn has(mask: u16, c: usize) -> bool
@@ -42,18 +42,6 @@ pub fn rest(mask: u16) -> u16
     ensures { λ r. ⌜ Rest mask r ⌝ }
 {
     mask & (mask - 1)
-}
-
-// The least carrier of the mask from `from` on, or 16 if there is none.
-pub fn next(mask: u16, from: usize) -> usize
-    requires { ⌜ from < 16 ⌝ }
-    ensures { λ c. ⌜ NextIn mask from c ⌝ }
-{
-    let left = mask >> from;
-    if left == 0 {
-        return 16;
-    }
-    from + first(left)
 }
 
 // The carriers among the first k whose entry is not 0, of the entries from `at` on.

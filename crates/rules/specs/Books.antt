@@ -42,6 +42,7 @@ pub record Orderly (B : Book) (d : ℕ) : Type 0 where
 
 pub record Shows (k n : ℕ) (T : Tables) (B : Book) : Type 0 where
   pub orderly : (d : ℕ) → d < n → Orderly B d
+  pub narrow : (d c : ℕ) → d < n → Has (at (B .lists) d) c → c < k
   pub passes : (p : List ℕ) (c : ℕ) → length p < n → Below k p → c < k → Stands T p c → Passes B p c
   pub stands : (p : List ℕ) (c : ℕ) → length p < n → Below k p → c < k → Passes B p c → Stands T p c
 

@@ -265,6 +265,7 @@ module _ {k : ℕ} {T : Tables} {B : Book} {p : List ℕ} (P : Page k T B (lengt
 pub pages-show : {k n d : ℕ} {T : Tables} {B : Book} → n ≤ most-risers → n ≤ d → Pages k T d B → Shows k n T B
 pages-show high le P = record {
   orderly = λ d lt. let R = P .page d (omega arith) .rules in record { few = omega (arith, R .few); before = λ j l. R .rule (d * most-risers + j) (omega arith) (omega arith) .starts };
+  narrow = λ d c lt h. P .page d (omega arith) .listed .only c h .0;
   passes = λ p c lt b l. page-passes (P .page (length p) (omega arith)) b l;
   stands = λ p c lt b l. page-stands (P .page (length p) (omega arith)) b l;
 }

@@ -14,4 +14,5 @@ pub mod Answering
 pub mod Finishing
 pub mod Trying
 pub mod Starting
-pub mod Pieces
+pub mod Copying
+pub mod Remaining

@@ -1,9 +1,7 @@
 -- `listing::list` meets its contract. The reader's tables serve the search, and what the search leaves settles the answer.
 use mathlib.Core.Path.{refl}
 use borrow.Author.Needs.{needs}
-use native.Mathlib.Omega.{arith}
 use denote.Ref.{now}
-use Rattle.search.specs.Search.{stateOf}
 use Rattle.listing.specs.Settling.{Given, given, refuses, given-riser, ready, settles}
 use Rattle.listing.proofs.list.Statement.{statement}
 use Rattle.listing.proofs.list.Tie as tie
@@ -27,17 +25,8 @@ accepted c = given (c .before .before .read-sheet .ensures) (c .carriers .given 
 room-requires : tie.Need-room-requires
 room-requires c κs = given-riser (accepted (c .before))
 
-slice-aggregate-search : tie.Need-slice-aggregate-search
-slice-aggregate-search c = search needs
-
-slice-aggregate-search-2 : tie.Need-slice-aggregate-search-2
-slice-aggregate-search-2 c = search needs
-
-slice-aggregate-search-3 : tie.Need-slice-aggregate-search-3
-slice-aggregate-search-3 c = search needs
-
 search-requires : tie.Need-search-requires
-search-requires c κs = ready (accepted (c .before .before .before .before .before .before .before .before .before .before .before)) _ _ _ _ _ refl refl (c .before .before .before .before .before .before .before .before .before .room .ensures) (search needs) (search needs) (search needs) (search needs)
+search-requires c κs = ready (accepted (c .before .before .before .before .before .before .before .before)) _ _ _ refl refl (c .before .before .before .before .before .before .room .ensures)
 
 settle-requires : tie.Need-settle-requires
 settle-requires c κs = search needs
@@ -53,10 +42,10 @@ same-length-2 c = search needs
 
 returns-2 : tie.Need-returns-2
 returns-2 c =
-    let searched = c .before .before .before .before .before .before .before .before .before .before .before .before .before .before in
-    let a = searched .before .before .before .before .before .before .before .before .before .before .before .before in
-    settles _ _ _ _ _ _ (accepted a) refl refl (searched .before .before .before .before .before .before .before .before .before .before .room .ensures) (searched .search .ensures)
-    (searched .search .kept .1 .1 .1 .1 .1 .1 .1 .1 .1 .0) (searched .search .kept .1 .1 .1 .1 .1 .1 .1 .1 .1 .1 .0) (c .before .before .before .before .settle .ensures)
+    let searched = c .before .before .before .before .before .before .before .before .before .before .before in
+    let a = searched .before .before .before .before .before .before .before .before .before in
+    settles _ _ _ _ _ _ (accepted a) refl refl (searched .before .before .before .before .before .before .before .room .ensures) (searched .search .ensures)
+    (searched .search .kept .1 .1 .1 .1 .1 .1 .0) (searched .search .kept .1 .1 .1 .1 .1 .1 .1 .0) (c .before .before .before .before .settle .ensures)
 
 pub list-spec : {M : Type 1} → statement M
 list-spec =
@@ -66,9 +55,6 @@ list-spec =
     enum-known-number
     enum-known-carriers
     room-requires
-    slice-aggregate-search
-    slice-aggregate-search-2
-    slice-aggregate-search-3
     search-requires
     settle-requires
     returns
