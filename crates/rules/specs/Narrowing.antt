@@ -1,6 +1,7 @@
 -- Narrowing: the rules that end at a riser are asked one after another, and the carriers that break one are dropped.
 --
 --   maskOf B p r                 the mask that the rule at place r of the book has for the carrier of its other riser in the row p
+--   Askable others row r         the rule at place r, its other riser and that riser's carrier in the row are within the tables
 --   Kept B d p next c            c goes with the rules of riser d that stand before the place `next`
 --   Narrowed B d p m next left   `left` has the carriers of m that are in the list of riser d and go with those rules
 --
@@ -23,6 +24,11 @@ use Rattle.rules.specs.Books.{Book, Orderly, Passes, Standing}
 abbrev pub maskOf : Book → List ℕ → ℕ → ℕ
 maskOf B p r = at (B .masks) (r * most-carriers + at p (at (B .others) r))
 
+pub record Askable (others row : List ℕ) (r : ℕ) : Type 0 where
+  pub place : r < most-risers * most-risers
+  pub riser : at others r < most-risers
+  pub carrier : at row (at others r) < most-carriers
+
 abbrev pub Kept : Book → ℕ → List ℕ → ℕ → ℕ → Type 0
 Kept B d p next c = (r : ℕ) → d * most-risers ≤ r → r < next → Has (maskOf B p r) c
 
@@ -31,23 +37,6 @@ pub record Narrowed (B : Book) (d : ℕ) (p : List ℕ) (m next left : ℕ) : Ty
   pub to : next ≤ d * most-risers + at (B .counts) d
   pub all : (c : ℕ) → Has m c → Has (at (B .lists) d) c → Kept B d p next c → Has left c
   pub only : (c : ℕ) → Has left c → Has m c × Has (at (B .lists) d) c × Kept B d p next c
-
--- ---- the place of a rule, and the carrier of its other riser
-
-module _ {B : Book} {d : ℕ} (o : Orderly B d) (high : d < most-risers) {r : ℕ} (from : d * most-risers ≤ r) (to : r < d * most-risers + at (B .counts) d) where
-  pub rule-place : r < most-risers * most-risers
-  rule-place = omega (arith, o .few)
-
-  pub rule-before : at (B .others) r < d
-  rule-before = subst (λ (x : ℕ). at (B .others) x < d) (omega arith) (o .before (r - d * most-risers) (omega arith))
-
--- the carrier that the row has at a riser before d, as it was read
-module _ (row : List ℕ) {d e other u : ℕ} (read : other ≡ e) (found : u ≡ at row other) (lt : e < d) where
-  pub row-at : u ≡ at (take d row) e
-  row-at = found ∙ ap (at row) read ∙ sym (getD-take d row e 0 lt)
-
-  pub row-below : {k : ℕ} → d ≤ length row → Below k (take d row) → u < k
-  row-below {k} long b = rw row-at (b (at (take d row) e) (mem-at (take d row) e (omega (arith, length-take-le d row long))))
 
 -- ---- the walk
 
@@ -60,10 +49,9 @@ narrowed-start p b = record {
 }
 
 module _ {B : Book} {d : ℕ} {p : List ℕ} {m next left : ℕ} (N : Narrowed B d p m next left) where
-  -- a rule more is asked: u is the carrier of its other riser, as it was read
-  pub narrowed-more : {u fewer : ℕ} → next < d * most-risers + at (B .counts) d → u ≡ at p (at (B .others) next)
-      → Both left (at (B .masks) (next * most-carriers + u)) fewer → Narrowed B d p m (next + 1) fewer
-  narrowed-more {u} {fewer} lt e b = asked (rw e at b)
+  -- a rule more is asked
+  narrowed-more : {mask fewer : ℕ} → next < d * most-risers + at (B .counts) d → mask ≡ maskOf B p next → Both left mask fewer → Narrowed B d p m (next + 1) fewer
+  narrowed-more {mask} {fewer} lt e b = asked (rw e at b)
     where
       kept : (c : ℕ) → Kept B d p next c → Has (maskOf B p next) c → (r : ℕ) → d * most-risers ≤ r → r < next + 1 → Dec (r ≡ next) → Has (maskOf B p r) c
       kept c k h r l u (yes e) = rw e h
@@ -76,6 +64,24 @@ module _ {B : Book} {d : ℕ} {p : List ℕ} {m next left : ℕ} (N : Narrowed B
         all = λ c f g k. b .all c (N .all c f g (λ r l u. k r l (omega arith))) (k next (N .from) (omega arith));
         only = λ c h. let was = N .only c (b .shared c h .0) in (was .0, was .1, λ r l u. kept c (was .2) (b .shared c h .1) r l u (ℕ-discrete r next));
       }
+
+-- the next rule of riser d, asked of a whole row: its other riser is before d, so that it is asked of the row's first d carriers
+module _ {B : Book} {d : ℕ} (row : List ℕ) {m next left : ℕ} (o : Orderly B d) (N : Narrowed B d (take d row) m next left) (more : next < d * most-risers + at (B .counts) d) where
+  before : at (B .others) next < d
+  before = subst (λ (r : ℕ). at (B .others) r < d) (omega (arith, N .from)) (o .before (next - d * most-risers) (omega (arith, N .from)))
+
+  same : at (take d row) (at (B .others) next) ≡ at row (at (B .others) next)
+  same = getD-take d row (at (B .others) next) 0 before
+
+  pub narrowed-askable : d < most-risers → length row ≡ most-risers → Below most-carriers (take d row) → Askable (B .others) row next
+  narrowed-askable high long b = record {
+    place = omega (arith, o .few);
+    riser = omega (arith, before);
+    carrier = rw same at (b (at (take d row) (at (B .others) next)) (mem-at (take d row) (at (B .others) next) (omega (arith, before, length-take-le d row (omega arith)))));
+  }
+
+  pub narrowed-asked : {mask fewer : ℕ} → mask ≡ maskOf B row next → Both left mask fewer → Narrowed B d (take d row) m (next + 1) fewer
+  narrowed-asked e = narrowed-more N more (e ∙ ap (λ (u : ℕ). at (B .masks) (next * most-carriers + u)) (sym same))
 
 -- a carrier that passes goes with each rule, by its place
 pub passes-kept : {B : Book} {p : List ℕ} {c next : ℕ} → Passes B p c → next ≤ length p * most-risers + at (B .counts) (length p) → Kept B (length p) p next c

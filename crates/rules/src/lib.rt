@@ -6,10 +6,12 @@
 ghost use mathlib.Core.Path.{_≡_};
 ghost use Prim.Native.Nat.{_+_, _*_, _≤_, _<_};
 ghost use lib.ListN.{length, take};
+ghost use Rattle.ground.specs.Meanings.Group.{at};
 ghost use Rattle.ground.specs.Meanings.Sheet.{most-carriers, most-risers, most-rules};
 ghost use Rattle.ground.specs.Laws.Rows.{Below};
 ghost use Rattle.rules.specs.Tables.{tables, Few};
 ghost use Rattle.rules.specs.Books.{book, Orderly, Shows, Standing};
+ghost use Rattle.rules.specs.Narrowing.{Askable};
 ghost use Rattle.rules.specs.Writing.{most-ends, most-masks, FewAt, Masked, Written};
 use masks::both;
 use masks::first;
@@ -107,8 +109,24 @@ pub fn write_book<'a>(
     }
 }
 
-// The carriers of `least` that may follow the row's first d carriers: a carrier is dropped at the first rule that it breaks, together
-// with all others that break it, so that each rule is asked once.
+// The carriers that the rule at a place of the book leaves, by the carrier of its other riser.
+fn left_by(
+    rule: usize,
+    others: &[u8; ENDS],
+    masks: &[u16; MASKS],
+    row: &[u8; ground::RISERS],
+) -> u16
+    requires { ⌜ Askable (now others) (now row) rule ⌝ }
+    ensures { λ r. ⌜ r ≡ at (now (masks .entry)) (rule * most-carriers + at (now (row .entry)) (at (now (others .entry)) rule)) ⌝ }
+{
+    let other = wide(others[rule]);
+    let u = wide(row[other]);
+    masks[rule * ground::CARRIERS + u]
+}
+
+// The carriers of `least` that may follow the row's first d carriers: a carrier leaves the mask at the first rule that it breaks,
+// together with all others that break it, so that each rule is asked once. Rules are asked two at a turn: a test after each is
+// mispredicted where there are many.
 pub fn standing(
     d: usize,
     least: u16,
@@ -128,10 +146,12 @@ pub fn standing(
     'carriers: while open != 0 {
         let c = first(open);
         while rule < last {
-            let other = wide(others[rule]);
-            let u = wide(row[other]);
-            open = both(open, masks[rule * ground::CARRIERS + u]);
+            open = both(open, left_by(rule, others, masks, row));
             rule += 1;
+            if rule < last {
+                open = both(open, left_by(rule, others, masks, row));
+                rule += 1;
+            }
             if !has(open, c) {
                 continue 'carriers;
             }
