@@ -1,4 +1,4 @@
-// The limits of a job sheet, as the code names them. The definitions' own names for them are in specs/Meanings/Sheet.antt;
+// The limits of a job sheet and the sizes of its tables, as the code names them. The definitions' own names for them are in specs/Meanings/Sheet.antt;
 // everything else in this crate is definitions and laws, under specs/.
 
 // The most carriers a rack has, and so the width of a swap.
@@ -18,3 +18,12 @@ pub const SWAPS: usize = 8;
 
 // The length of the longest sheet, in bytes.
 pub const LONGEST: usize = 30214;
+
+// The entries of the table of lists: one for each riser and carrier.
+pub const LISTED: usize = RISERS * CARRIERS;
+
+// The entries of the table of allowed pairs: one for each rule and each pair of carriers.
+pub const ALLOWED: usize = RULES * PAIRS;
+
+// The entries of the table of rules by their risers: one for each two risers.
+pub const ENDS: usize = RISERS * RISERS;

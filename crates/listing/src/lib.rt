@@ -88,9 +88,9 @@ fn settle(t: Tally, room: usize, bytes: &mut [u8], sizes: &mut [u64]) -> Answer
 pub fn list(sheet: &[u8], allowance: u64, bytes: &mut [u8], sizes: &mut [u64]) -> Answer
     ensures { λ r. ⌜ Lists (now (sheet .entry)) allowance (now (bytes .entry)) (now (sizes .entry)) (left (r .number) (r .place) (r .listed) (r .opened) (r .total) (now (bytes .exit)) (now (sizes .exit))) ⌝ }
 {
-    let mut member = [0u8; sheet::LISTED];
-    let mut allowed = [0u8; sheet::ALLOWED];
-    let mut ends = [0u8; sheet::ENDS];
+    let mut member = [0u8; ground::LISTED];
+    let mut allowed = [0u8; ground::ALLOWED];
+    let mut ends = [0u8; ground::ENDS];
     let mut swaps = [[0u8; ground::CARRIERS]; ground::SWAPS];
     match sheet::read_sheet(sheet, &mut member, &mut allowed, &mut ends, &mut swaps) {
         Head::Refused(number, place) => Answer {

@@ -13,19 +13,13 @@ ghost use Rattle.rules.specs.Tables.{tables, Few};
 ghost use Rattle.rules.specs.Books.{book, Orderly, Shows, Standing};
 ghost use Rattle.rules.specs.Narrowing.{Askable};
 ghost use Rattle.rules.specs.Writing.{most-ends, most-masks, FewAt, Masked, Written};
+use ground::ALLOWED;
+use ground::ENDS;
+use ground::LISTED;
 use masks::both;
 use masks::first;
 use masks::has;
 use masks::marked;
-
-// The entries of the table of lists: one for each riser and carrier.
-pub const LISTED: usize = ground::RISERS * ground::CARRIERS;
-
-// The entries of the table of allowed pairs: one for each rule and each pair of carriers.
-pub const ALLOWED: usize = ground::RULES * ground::PAIRS;
-
-// The entries of the table of rules by their risers: one for each two risers.
-pub const ENDS: usize = ground::RISERS * ground::RISERS;
 
 // The masks of the rules: one for each two risers and each carrier of the first.
 pub const MASKS: usize = ENDS * ground::CARRIERS;
