@@ -118,9 +118,8 @@ fn left_by(
     masks[rule * ground::CARRIERS + u]
 }
 
-// The carriers of `least` that may follow the row's first d carriers: a carrier leaves the mask at the first rule that it breaks,
-// together with all others that break it, so that each rule is asked once. Rules are asked two at a turn: a test after each is
-// mispredicted where there are many.
+// The carriers of `least` that may follow the row's first d carriers. A carrier is dropped at the first rule that it breaks, and the
+// next one is tried. That rule drops all others that break it too, so that the next one goes on at the rule after it.
 pub fn standing(
     d: usize,
     least: u16,
@@ -140,12 +139,9 @@ pub fn standing(
     'carriers: while open != 0 {
         let c = first(open);
         while rule < last {
-            open = both(open, left_by(rule, others, masks, row));
+            let left = left_by(rule, others, masks, row);
+            open = both(open, left);
             rule += 1;
-            if rule < last {
-                open = both(open, left_by(rule, others, masks, row));
-                rule += 1;
-            }
             if !has(open, c) {
                 continue 'carriers;
             }

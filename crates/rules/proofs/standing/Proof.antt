@@ -1,8 +1,7 @@
 -- `standing` meets its contract. At the head of both loops the carriers that are left are those that go with the rules before the next
--- one (`Narrowed`), whichever carrier is looked at; a turn asks one rule more, or two.
+-- one (`Narrowed`), whichever carrier is looked at; a turn asks one rule more.
 -- Assumes nothing.
 use mathlib.Core.Path.{_≡_}
-use mathlib.Core.Logic.{⊎-elim}
 use Prim.Native.Nat.{ℕ, _+_, _*_, _≤_, _<_, _-_}
 use native.Mathlib.Omega.{arith}
 use lib.ListN.{length, take}
@@ -29,48 +28,26 @@ abbrev μ-carriers : tie.MeasureT-carriers
 row-length : (s : tie.Start Inv-loop μ-loop Inv-carriers μ-carriers) → length (take (s .args .d) (s .args .row .now)) ≡ s .args .d
 row-length s = length-take-le (s .args .d) (s .args .row .now) (omega (arith, s .pre .0 .0, s .pre .0 .1))
 
--- the carriers that are left once the rules before `next` are asked, and that `next` is a rule of riser d
-abbrev Left : tie.Start Inv-loop μ-loop Inv-carriers μ-carriers → ℕ → ℕ → Type 0
-Left s next left = Narrowed (book (s .args .lists .now) (s .args .counts .now) (s .args .others .now) (s .args .masks .now)) (s .args .d) (take (s .args .d) (s .args .row .now)) (s .args .least) next left
-
-abbrev More : tie.Start Inv-loop μ-loop Inv-carriers μ-carriers → ℕ → Type 0
-More s next = next < s .args .d * 12 + at (s .args .counts .now) (s .args .d)
-
-askable : (s : tie.Start Inv-loop μ-loop Inv-carriers μ-carriers) {next left : ℕ} → Left s next left → More s next → Askable (s .args .others .now) (s .args .row .now) next
-askable s n m = narrowed-askable (s .args .row .now) (s .pre .1) n m (s .pre .0 .0) (s .pre .0 .1) (s .pre .0 .2)
-
--- the first rule of a turn
+-- a turn asks a rule of riser d, which is within the tables
 abbrev start : tie.In-loop Inv-loop μ-loop Inv-carriers μ-carriers → tie.Start Inv-loop μ-loop Inv-carriers μ-carriers
 start c = c .before .before .before .before .before .before .before .before .before
 
-more : (c : tie.In-loop Inv-loop μ-loop Inv-carriers μ-carriers) → More (start c) (c .before .loop .rule)
+more : (c : tie.In-loop Inv-loop μ-loop Inv-carriers μ-carriers) → c .before .loop .rule < start c .args .d * 12 + at (start c .args .counts .now) (start c .args .d)
 more c = omega (arith, c .loop-test .taken, c .before .before .before .before .before .wide .ensures)
+
+askable : (c : tie.In-loop Inv-loop μ-loop Inv-carriers μ-carriers) → Askable (start c .args .others .now) (start c .args .row .now) (c .before .loop .rule)
+askable c =
+    let s = start c in
+    narrowed-askable (s .args .row .now) (s .pre .1) (c .before .loop .inv .0) (more c) (s .pre .0 .0) (s .pre .0 .1) (s .pre .0 .2)
+
+-- and leaves the carriers that go with it too
+abbrev Left : tie.Start Inv-loop μ-loop Inv-carriers μ-carriers → ℕ → ℕ → Type 0
+Left s next left = Narrowed (book (s .args .lists .now) (s .args .counts .now) (s .args .others .now) (s .args .masks .now)) (s .args .d) (take (s .args .d) (s .args .row .now)) (s .args .least) next left
 
 narrower : (c : tie.After-both2 Inv-loop μ-loop Inv-carriers μ-carriers) → Left (start (c .before .before)) (c .before .before .before .loop .rule + 1) (c .both2 .result)
 narrower c =
     let w = c .before .before in
     narrowed-asked (start w .args .row .now) (start w .pre .1) (w .before .loop .inv .0) (more w) (c .before .left-by .ensures) (c .both2 .ensures)
-
--- the second, if there is one
-again : (c : tie.Then1 Inv-loop μ-loop Inv-carriers μ-carriers) → More (start (c .before .before .before)) (c .before .before .before .before .loop .rule + 1)
-again c = omega (arith, c .if1 .taken, c .before .before .before .before .before .before .before .before .wide .ensures)
-
-narrower-again : (c : tie.After-both3 Inv-loop μ-loop Inv-carriers μ-carriers) → Left (start (c .before .before .before .before .before)) (c .before .before .before .before .before .before .loop .rule + 1 + 1) (c .both3 .result)
-narrower-again c =
-    let w = c .before .before in
-    let s = start (w .before .before .before) in
-    narrowed-asked (s .args .row .now) (s .pre .1) (narrower (w .before)) (again w) (c .before .left-by2 .ensures) (c .both3 .ensures)
-
--- after the turn
-turned : (c : tie.Joined1 Inv-loop μ-loop Inv-carriers μ-carriers) → Left (start (c .before .before .before)) (c .if1 .rule) (c .if1 .«open»)
-turned c =
-    ⊎-elim
-    (λ w. rw (w .3, w .4) (narrower-again (record { before = record { before = record { before = c .before; if1 = w .0 }; left-by2 = w .1 }; both3 = w .2 })))
-    (λ w. rw (w .1, w .2) (narrower (c .before)))
-    (c .if1 .came)
-
-further : (c : tie.Joined1 Inv-loop μ-loop Inv-carriers μ-carriers) → c .before .before .before .before .loop .rule < c .if1 .rule
-further c = ⊎-elim (λ w. omega arith) (λ w. omega arith) (c .if1 .came)
 
 mul-both : tie.Need-mul-both Inv-loop μ-loop Inv-carriers μ-carriers
 mul-both c = omega arith
@@ -103,37 +80,28 @@ loop-holds : tie.Need-loop-holds Inv-loop μ-loop Inv-carriers μ-carriers
 loop-holds c = (c .before .before .carriers .inv, omega arith)
 
 left-by-requires : tie.Need-left-by-requires Inv-loop μ-loop Inv-carriers μ-carriers
-left-by-requires c κs = askable (start c) (c .before .loop .inv .0) (more c)
+left-by-requires c κs = askable c
 
 both-requires-2 : tie.Need-both-requires-2 Inv-loop μ-loop Inv-carriers μ-carriers
 both-requires-2 c κs = tt
 
 add-rule : tie.Need-add-rule Inv-loop μ-loop Inv-carriers μ-carriers
-add-rule c = omega (arith, askable (start (c .before .before)) (c .before .before .before .loop .inv .0) (more (c .before .before)) .place)
-
-left-by-requires-2 : tie.Need-left-by-requires-2 Inv-loop μ-loop Inv-carriers μ-carriers
-left-by-requires-2 c κs = askable (start (c .before .before .before)) (narrower (c .before)) (again c)
-
-both-requires-3 : tie.Need-both-requires-3 Inv-loop μ-loop Inv-carriers μ-carriers
-both-requires-3 c κs = tt
-
-add-rule-2 : tie.Need-add-rule-2 Inv-loop μ-loop Inv-carriers μ-carriers
-add-rule-2 c = omega (arith, askable (start (c .before .before .before .before .before)) (narrower (c .before .before .before)) (again (c .before .before)) .place)
+add-rule c = omega (arith, askable (c .before .before) .place)
 
 has-requires : tie.Need-has-requires Inv-loop μ-loop Inv-carriers μ-carriers
-has-requires c κs = c .before .before .before .before .before .first .ensures .below
+has-requires c κs = c .before .before .before .before .first .ensures .below
 
 carriers-less : tie.Need-carriers-less Inv-loop μ-loop Inv-carriers μ-carriers
-carriers-less c = omega (arith, further (c .before .before), c .before .before .before .before .before .before .loop .inv .1, c .before .before .before .before .before .loop-test .taken)
+carriers-less c = omega (arith, c .before .before .before .before .before .loop .inv .1, c .before .before .before .before .loop-test .taken)
 
 carriers-again : tie.Need-carriers-again Inv-loop μ-loop Inv-carriers μ-carriers
-carriers-again c = turned (c .before .before)
+carriers-again c = narrower (c .before .before)
 
 loop-less : tie.Need-loop-less Inv-loop μ-loop Inv-carriers μ-carriers
-loop-less c = omega (arith, further (c .before .before), c .before .before .before .before .before .loop-test .taken)
+loop-less c = omega (arith, c .before .before .before .before .loop-test .taken)
 
 loop-again : tie.Need-loop-again Inv-loop μ-loop Inv-carriers μ-carriers
-loop-again c = (turned (c .before .before), omega (arith, further (c .before .before), c .before .before .before .before .before .before .loop .inv .1))
+loop-again c = (narrower (c .before .before), omega (arith, c .before .before .before .before .before .loop .inv .1))
 
 returns : tie.Need-returns Inv-loop μ-loop Inv-carriers μ-carriers
 returns c = narrowed-whole (c .before .loop .inv .0) (row-length (c .before .before .before .before .before .before .before .before .before)) (omega (arith, c .loop-test .left, c .before .before .before .before .before .wide .ensures))
@@ -162,9 +130,6 @@ standing-spec =
     left-by-requires
     both-requires-2
     add-rule
-    left-by-requires-2
-    both-requires-3
-    add-rule-2
     has-requires
     carriers-less
     carriers-again
