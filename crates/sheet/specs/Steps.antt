@@ -1,0 +1,97 @@
+-- How far a reader has come, section by section.
+--
+--   Reached i s p f M T E G   of the sheet s, i sections are read, up to the place p: f has what they say, and the tables M, T, E
+--                             and G are theirs, those of later sections still blank; or the sheet is refused, at p
+--   Begun s p f M T E G       as many sections as may be are read
+--   Goes s p f M T E G ..     from there, one section more is read, or the reader stays where it is
+--   wholeAt s p f             the answer of a reader at p, by what it found
+--
+-- After four sections the reader's answer is that of the whole sheet (`reached-whole`).
+-- Assumes nothing.
+use mathlib.Core.Path.{_≡_, refl}
+use mathlib.Core.Bool.{Bool, true, false, cond}
+use mathlib.Core.List.{List}
+use Prim.Native.Nat.{ℕ, suc, _≤_, _*_}
+use native.Mathlib.Omega.{arith}
+use lib.Dec.{eqb}
+use lib.ListN.{length, replicate}
+use borrow.Author.Tests.{eqb-true, eqb-false}
+use Rattle.ground.specs.Meanings.Group.{identity}
+use Rattle.ground.specs.Meanings.Sheet.{refused, jobSheet, Sheet, Rule, count, riser, rule, swap, most-carriers, most-risers, most-rules, most-pairs, most-swaps}
+use Rattle.sheet.specs.declared.Number.{Number}
+use Rattle.sheet.specs.declared.Found.{Found}
+use Rattle.sheet.specs.declared.Head.{Head}
+use Rattle.sheet.specs.Tables.{markLists, isListed, isAllowed, ruleTables, markRules, putSwap, putAll}
+use Rattle.sheet.specs.Answers.{Answers, tellNumber, tellCount, tellSheet, answer-refused}
+use Rattle.sheet.specs.Sections.{section}
+use Rattle.sheet.specs.Serves.{Serves, Blank}
+use Rattle.sheet.specs.Whole.{GotCarriers, GotRisers, GotRules, GotSwaps, all-read, more-bytes}
+
+unfoldable pub Reached : ℕ → List ℕ → ℕ → Found → List ℕ → List ℕ → List ℕ → List (List ℕ) → Type 0
+Reached i s p Found.Nothing M T E G = (i ≡ 0) × (p ≡ 0) × Blank M T E G
+Reached i s p (Found.Carriers k) M T E G = (i ≡ 1) × GotCarriers s 0 k p × Blank M T E G
+Reached i s p (Found.Risers k n) M T E G = (i ≡ 2) × GotRisers s 0 k n p M × (T ≡ replicate (most-rules * most-pairs) 0) × (E ≡ replicate (most-risers * most-risers) 0) × (G ≡ replicate most-swaps (identity most-carriers))
+Reached i s p (Found.Rules k n m) M T E G = (i ≡ 3) × GotRules s 0 k n m p M T E × (G ≡ replicate most-swaps (identity most-carriers))
+Reached i s p (Found.Swaps k n m c) M T E G = (4 ≤ i) × GotSwaps s 0 k n m c p M T E G
+Reached i s p (Found.Refused q) M T E G = jobSheet s 0 ≡ refused q p
+
+pub record Begun (s : List ℕ) (p : ℕ) (f : Found) (M T E : List ℕ) (G : List (List ℕ)) : Type 0 where
+  pub sections : ℕ
+  pub reached : Reached sections s p f M T E G
+
+-- ---- one section more
+
+-- what reading the section after f answers, and what it leaves in the tables
+unfoldable pub NextSection : List ℕ → ℕ → Number → List ℕ → List ℕ → List ℕ → List (List ℕ) → List ℕ → List ℕ → List ℕ → List (List ℕ) → Found → Type 0
+NextSection s p r M T E G M′ T′ E′ G′ Found.Nothing = (r ≡ tellNumber (count 1 most-carriers s p)) × (M′ ≡ M) × (T′ ≡ T) × (E′ ≡ E) × (G′ ≡ G)
+NextSection s p r M T E G M′ T′ E′ G′ (Found.Carriers k) = Answers tellCount (section 1 most-risers (riser k) s p) r (λ (l : List (List ℕ)). M′ ≡ markLists M l) × (T′ ≡ T) × (E′ ≡ E) × (G′ ≡ G)
+NextSection s p r M T E G M′ T′ E′ G′ (Found.Risers k n) = Answers tellCount (section 0 most-rules (rule n (isListed M)) s p) r (λ (l : List Rule). ruleTables T′ E′ ≡ markRules (ruleTables T E) l) × (M′ ≡ M) × (G′ ≡ G)
+NextSection s p r M T E G M′ T′ E′ G′ (Found.Rules k n m) = Answers tellCount (section 0 most-swaps (swap k n m (isListed M) (isAllowed T)) s p) r (λ (l : List (List ℕ)). G′ ≡ putAll putSwap G 0 l) × (M′ ≡ M) × (T′ ≡ T) × (E′ ≡ E)
+NextSection s p r M T E G M′ T′ E′ G′ (Found.Swaps k n m c) = (r ≡ Number.Read c p) × (M′ ≡ M) × (T′ ≡ T) × (E′ ≡ E) × (G′ ≡ G)
+NextSection s p r M T E G M′ T′ E′ G′ (Found.Refused q) = (r ≡ Number.Refused q p) × (M′ ≡ M) × (T′ ≡ T) × (E′ ≡ E) × (G′ ≡ G)
+
+unfoldable pub withCount : ℕ → Found → Found
+withCount c Found.Nothing = Found.Carriers c
+withCount c (Found.Carriers k) = Found.Risers k c
+withCount c (Found.Risers k n) = Found.Rules k n c
+withCount c (Found.Rules k n m) = Found.Swaps k n m c
+withCount c (Found.Swaps k n m _) = Found.Swaps k n m c
+withCount c (Found.Refused q) = Found.Refused q
+
+unfoldable pub stepPlace : Number → ℕ
+stepPlace (Number.Read c next) = next
+stepPlace (Number.Refused q place) = place
+
+unfoldable pub stepFound : Found → Number → Found
+stepFound f (Number.Read c next) = withCount c f
+stepFound f (Number.Refused q place) = Found.Refused q
+
+pub record Goes (s : List ℕ) (p : ℕ) (f : Found) (M T E : List ℕ) (G : List (List ℕ)) (p′ : ℕ) (f′ : Found) (M′ T′ E′ : List ℕ) (G′ : List (List ℕ)) : Type 0 where
+  pub on : (i : ℕ) → Reached i s p f M T E G → Reached (suc i) s p′ f′ M′ T′ E′ G′
+
+unfoldable pub wholeAt : List ℕ → ℕ → Found → Head
+wholeAt s p Found.Nothing = Head.Refused 1 p
+wholeAt s p (Found.Carriers k) = Head.Refused 1 p
+wholeAt s p (Found.Risers k n) = Head.Refused 1 p
+wholeAt s p (Found.Rules k n m) = Head.Refused 1 p
+wholeAt s p (Found.Swaps k n m c) = cond (eqb p (length s)) (Head.Accepted k n m c) (Head.Refused 9 p)
+wholeAt s p (Found.Refused q) = Head.Refused q p
+
+-- ---- the first step, and the last
+
+pub reached-nothing : (s : List ℕ) {M T E : List ℕ} {G : List (List ℕ)} → Blank M T E G → Reached 0 s 0 Found.Nothing M T E G
+unfolding Reached
+reached-nothing s b = (refl, refl, b)
+
+pub reached-whole : (s : List ℕ) (p : ℕ) (f : Found) (M T E : List ℕ) (G : List (List ℕ)) → Reached 4 s p f M T E G → Answers tellSheet (jobSheet s 0) (wholeAt s p f) (λ (X : Sheet). Serves X M T E G)
+unfolding Reached wholeAt
+reached-whole s p Found.Nothing M T E G h = absurd (omega (arith, h .0))
+reached-whole s p (Found.Carriers k) M T E G h = absurd (omega (arith, h .0))
+reached-whole s p (Found.Risers k n) M T E G h = absurd (omega (arith, h .0))
+reached-whole s p (Found.Rules k n m) M T E G h = absurd (omega (arith, h .0))
+reached-whole s p (Found.Swaps k n m c) M T E G h = go (eqb p (length s)) refl
+  where
+    go : (b : Bool) → eqb p (length s) ≡ b → Answers tellSheet (jobSheet s 0) (cond b (Head.Accepted k n m c) (Head.Refused 9 p)) (λ (X : Sheet). Serves X M T E G)
+    go true e = all-read s 0 (h .1) (eqb-true p (length s) e)
+    go false e = more-bytes s 0 (h .1) (eqb-false p (length s) e)
+reached-whole s p (Found.Refused q) M T E G h = answer-refused tellSheet h
