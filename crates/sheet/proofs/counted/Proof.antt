@@ -1,56 +1,46 @@
+-- `counted` says what is found with one count more: by cases, and each case is the definition's.
+-- Assumes nothing.
 use borrow.Author.Needs.{needs}
+use mathlib.Core.Path.{sym, ap}
+use Rattle.sheet.specs.Steps.{withCount}
 use Rattle.sheet.proofs.counted.Statement.{statement}
 use Rattle.sheet.proofs.counted.Tie as tie
-use Rattle.sheet.proofs.counted.Reads as reads
-use Rattle.sheet.proofs.counted.Lts as lts
 
--- src/lib.rt:615:27
 enum-told : tie.Need-enum-told
 enum-told c = search needs
 
--- src/lib.rt:616:25
 enum-known-found : tie.Need-enum-known-found
 enum-known-found c = search needs
 
--- src/lib.rt:617:23
 enum-known-found-2 : tie.Need-enum-known-found-2
 enum-known-found-2 c = search needs
 
--- src/lib.rt:618:22
 enum-known-found-3 : tie.Need-enum-known-found-3
 enum-known-found-3 c = search needs
 
--- src/lib.rt:619:22
 enum-known-found-4 : tie.Need-enum-known-found-4
 enum-known-found-4 c = search needs
 
--- src/lib.rt:620:24
 enum-known-found-5 : tie.Need-enum-known-found-5
 enum-known-found-5 c = search needs
 
--- src/lib.rt:611:1
 returns : tie.Need-returns
-returns c = ?
+returns c = ap (withCount _) (sym (c .enum-told .given .1))
 
--- src/lib.rt:611:1
 returns-2 : tie.Need-returns-2
-returns-2 c = ?
+returns-2 c = ap (withCount _) (sym (c .before .found .given .1))
 
--- src/lib.rt:611:1
 returns-3 : tie.Need-returns-3
-returns-3 c = ?
+returns-3 c = ap (withCount _) (sym (c .before .found2 .given .1))
 
--- src/lib.rt:611:1
 returns-4 : tie.Need-returns-4
-returns-4 c = ?
+returns-4 c = ap (withCount _) (sym (c .before .found3 .given .1))
 
--- src/lib.rt:611:1
 returns-5 : tie.Need-returns-5
-returns-5 c = ?
+returns-5 c = ap (withCount _) (sym (c .before .found4 .given .1))
 
--- src/lib.rt:611:1
 returns-6 : tie.Need-returns-6
-returns-6 c = ?
+returns-6 c = ap (withCount _) (sym (c .before .found5 .given .1))
 
 pub counted-spec : {M : Type 1} → statement M
 counted-spec =
