@@ -176,9 +176,10 @@ module _ {M : Type 1} (𝓤 : URA M) (H : Heap 𝓤) (A : Atoms 𝓤) (W : Given
         alloc1 ! (λ l₀. alloc1 ! (λ l₁. alloc1 ! (λ l₂. alloc1 ! (λ l₃. alloc1 ! (λ l₄. alloc1 ! (λ l₅. alloc1 ! (λ l₆. alloc1 ! (λ l₇. alloc1 ! (λ l₈. alloc1 ! (λ l₉. alloc1 ! (λ l₁₀. alloc1 ! (λ l₁₁. alloc1 ! (λ l₁₂. alloc1 ! (λ l₁₃. alloc1 ! (λ l₁₄. alloc0 ! $ params1 ! $
         pass1 ! (init ! 26 refl wt) $ pass1 ! (init ! 24 refl (tt, tt)) $ pass1 ! (init ! 22 refl (tt, tt)) $ pass1 ! (init ! 20 refl (tt, tt)) $ pass1 ! (init ! 18 refl (tt, tt)) $ pass0 ! $
         -- [_14; …; _13; …; _12; …; _11; …; _10; …; _9; …; _8; …; _7; …; _6; …; _5; …; _4; …; _3; …; _2; …; _1; …; room for _0; …; what there is on entry]
+        -- at lies 16 bytes into the struct, and found 24
         assigns ! (of-opd ! (load ! (from ! (fld ! refl (stop !))) (look-in ! 26 (sub ! 0 refl (whole !))))) (from ! (stop !)) (init ! 14 refl (tt, wt .1 .0)) $
-        assigns ! (of-opd ! (load ! (from ! (fld ! refl (stop !))) (look-in ! 26 (sub ! 1 refl (whole !))))) (from ! (stop !)) (init ! 12 refl (tt, wt .1 .1 .0)) $
-        assigns ! (of-opd ! (load ! (from ! (fld ! refl (stop !))) (look-in ! 26 (sub ! 2 refl (whole !))))) (from ! (stop !)) (init ! 10 refl (EL.lawful F.the-type F′.the-laws 𝓤 H A W tt .typed (d .found) (f ∷ []) (fields .1 .1 .0) .0)) $
+        assigns ! (of-opd ! (load ! (from ! (fld ! {d = 16} refl (stop !))) (look-in ! 26 (sub ! 1 {d = 16} refl (whole !))))) (from ! (stop !)) (init ! 12 refl (tt, wt .1 .1 .0)) $
+        assigns ! (of-opd ! (load ! (from ! (fld ! {d = 24} refl (stop !))) (look-in ! 26 (sub ! 2 {d = 24} refl (whole !))))) (from ! (stop !)) (init ! 10 refl (EL.lawful F.the-type F′.the-laws 𝓤 H A W tt .typed (d .found) (f ∷ []) (fields .1 .1 .0) .0)) $
         assigns ! (addr ! (from ! (hop ! (look ! 24 refl) (stop !)))) (from ! (stop !)) (init ! 8 refl (tt, tt)) $
         assigns ! (addr ! (from ! (hop ! (look ! 22 refl) (stop !)))) (from ! (stop !)) (init ! 6 refl (tt, tt)) $
         assigns ! (addr ! (from ! (hop ! (look ! 20 refl) (stop !)))) (from ! (stop !)) (init ! 4 refl (tt, tt)) $
