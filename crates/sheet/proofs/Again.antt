@@ -19,7 +19,7 @@ use base.Logic.{ent, sep, ex}
 use base.Fml.{GName, Fml, ftrue, fsep, flft, fres}
 use prog.Wp.{Heap}
 use ghost.Atoms.{Atoms, sem}
-use types.Kit.{Given, Item, ‵, raw, _⊛_, some, later, mean, _$_, _∵_, !, qed, move, keep, use2, use3, split, join, pick, fsplit, fjoin, frame, await, updating, now as at-once, show, done}
+use types.Kit.{Given, Item, ‵, raw, _⊛_, some, later, mean, _$_, _∵_, !, qed, move, keep, use2, use3, split, join, pick, fsplit, fjoin, await, updating, now as at-once, show, done}
 use types.Tokens.{lft-new, lft-end}
 use contract.Lifetimes.{Lfts, Shares, toks}
 use denote.RattleType.{RattleType, Denots}
@@ -46,6 +46,7 @@ abbrev pub lifetimes : (Rs : List RattleType) → Loans Rs → Lfts (length Rs)
 lifetimes [] ls = tt
 lifetimes (R ∷ Rs) ls = (ls .0 .0 ∷ [], lifetimes Rs (ls .1))
 
+-- the whole share of each lifetime that is made
 abbrev pub shares : (Rs : List RattleType) → Shares (length Rs)
 shares [] = tt
 shares (R ∷ Rs) = (fullShare, shares Rs)
@@ -67,6 +68,7 @@ finals [] ls ys = ftrue
 finals (R ∷ Rs) ls ys = fsep (fres (ls .0 .1) (R .coded .code (ys .0))) (finals Rs (ls .1) (ys .1))
 
 module _ {M : Type 1} (𝓤 : URA M) (H : Heap 𝓤) (A : Atoms 𝓤) (W : Given 𝓤 H A) where
+  -- the tokens of the lifetimes κs
   abbrev held : (Rs : List RattleType) → Lfts (length Rs) → Shares (length Rs) → Item 𝓤
   held Rs κs qs = raw (toks 𝓤 A (length Rs) κs qs)
 
