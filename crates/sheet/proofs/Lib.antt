@@ -1,2 +1,3 @@
 -- What the walks by hand share.
+pub mod Again
 pub mod Lent

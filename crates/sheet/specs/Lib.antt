@@ -13,6 +13,7 @@
 --   Entries    what the tables of lists and of allowed pairs say, entry by entry
 --   Ends       what the table of rules by their risers says
 --   Whole      the whole sheet
+--   Steps      how far a reader has come
 --   Callers    what a caller has of an answer; no second answer fits
 pub mod Tables
 pub mod Least
@@ -27,4 +28,5 @@ pub mod Swaps
 pub mod Entries
 pub mod Ends
 pub mod Whole
+pub mod Steps
 pub mod Callers

@@ -14,12 +14,12 @@ use lib.ListN.{length, length-append, replicate}
 use lib.Seq.{set-append-seam}
 use borrow.Author.Tests.{eq-eqb, ne-eqb}
 use Rattle.ground.specs.Meanings.Group.{identity}
-use Rattle.ground.specs.Meanings.Sheet.{Outcome, got, andThen, many, count, riser, rule, Rule, swap, nothingMore, listedIn, allowedBy, Sheet, jobSheet, most-carriers, most-risers, most-rules, most-pairs, most-swaps}
+use Rattle.ground.specs.Meanings.Sheet.{Outcome, got, refused, andThen, many, count, riser, rule, Rule, swap, nothingMore, listedIn, allowedBy, Sheet, jobSheet, most-carriers, most-risers, most-rules, most-pairs, most-swaps}
 use Rattle.ground.specs.Laws.Reading.{All, andThen-got}
 use Rattle.sheet.specs.declared.Number.{Number}
 use Rattle.sheet.specs.declared.Head.{Head}
 use Rattle.sheet.specs.Tables.{markLists, isListed, isAllowed, RuleTables, ruleTables, markRules, padded, putSwap, putAll}
-use Rattle.sheet.specs.Answers.{Answers, tellNumber, tellCount, tellSheet, answer-got, answer-refused, number-got, number-refused, count-got, count-refused}
+use Rattle.sheet.specs.Answers.{Answers, tellNumber, tellCount, tellSheet, answer-got, number-got, number-refused, count-got, count-refused}
 use Rattle.sheet.specs.Risers.{count-most}
 use Rattle.sheet.specs.Sections.{section, section-then, section-most}
 use Rattle.sheet.specs.Serves.{Serves, Blank, Reads}
@@ -65,8 +65,8 @@ pub record GotCarriers (s : List ℕ) (p k p₁ : ℕ) : Type 0 where
   pub few : k ≤ most-carriers
 
 module _ (s : List ℕ) (p : ℕ) where
-  pub no-carriers : {P : Sheet → Type 0} {q w : ℕ} → Number.Refused q w ≡ tellNumber (count 1 most-carriers s p) → Answers tellSheet (jobSheet s p) (Head.Refused q w) P
-  no-carriers e = answer-refused tellSheet (whole s p ∙ rw (number-refused (count 1 most-carriers s p) e))
+  pub no-carriers : {q w : ℕ} → Number.Refused q w ≡ tellNumber (count 1 most-carriers s p) → jobSheet s p ≡ refused q w
+  no-carriers e = whole s p ∙ rw (number-refused (count 1 most-carriers s p) e)
 
   pub carriers-got : {k p₁ : ℕ} → Number.Read k p₁ ≡ tellNumber (count 1 most-carriers s p) → GotCarriers s p k p₁
   carriers-got e = record { read = number-got (count 1 most-carriers s p) e; few = count-most s p 1 most-carriers e }
@@ -88,8 +88,8 @@ unfolding section
 section-small k s p w e = let z = andThen-got (count 1 most-risers s p) _ e in lists-small k s (z .0) (z .1) w (z .3)
 
 module _ (s : List ℕ) (p : ℕ) {k p₁ : ℕ} (C : GotCarriers s p k p₁) (M₀ : List ℕ) {M : List ℕ} {r : Number} (a : Answers tellCount (section 1 most-risers (riser k) s p₁) r (λ (l : List (List ℕ)). M ≡ markLists M₀ l)) where
-  pub no-risers : {P : Sheet → Type 0} {q w : ℕ} → r ≡ Number.Refused q w → Answers tellSheet (jobSheet s p) (Head.Refused q w) P
-  no-risers e = answer-refused tellSheet (whole s p ∙ rw (C .read, count-refused a e))
+  pub no-risers : {q w : ℕ} → r ≡ Number.Refused q w → jobSheet s p ≡ refused q w
+  no-risers e = whole s p ∙ rw (C .read, count-refused a e)
 
   pub risers-got : {n p₂ : ℕ} → M₀ ≡ replicate (most-risers * most-carriers) 0 → r ≡ Number.Read n p₂ → GotRisers s p k n p₂ M
   risers-got {n} {p₂} b e =
@@ -137,8 +137,8 @@ module _ (s : List ℕ) (p : ℕ) {k n p₂ : ℕ} {M : List ℕ} (L : GotRisers
   same-rules : section 0 most-rules (rule n (listedIn (L .ls))) s p₂ ≡ section 0 most-rules (rule n (isListed M)) s p₂
   same-rules = ap (λ (f : ℕ → ℕ → Bool). section 0 most-rules (rule n f) s p₂) (sym (says-listed L))
 
-  pub no-rules : {P : Sheet → Type 0} {q w : ℕ} → r ≡ Number.Refused q w → Answers tellSheet (jobSheet s p) (Head.Refused q w) P
-  no-rules e = answer-refused tellSheet (risers-read L ∙ rw (same-rules ∙ count-refused a e))
+  pub no-rules : {q w : ℕ} → r ≡ Number.Refused q w → jobSheet s p ≡ refused q w
+  no-rules e = risers-read L ∙ rw (same-rules ∙ count-refused a e)
 
   pub rules-got : {m p₃ : ℕ} → T₀ ≡ replicate (most-rules * most-pairs) 0 → E₀ ≡ replicate (most-risers * most-risers) 0 → r ≡ Number.Read m p₃ → GotRules s p k n m p₃ M T E
   rules-got {m} {p₃} b d e =
@@ -186,8 +186,8 @@ module _ (s : List ℕ) (p : ℕ) {k n m p₃ : ℕ} {M T E : List ℕ} (R : Got
   same-swaps : section 0 most-swaps (swap k n m (listedIn (R .risers .ls)) (allowedBy (R .rs))) s p₃ ≡ section 0 most-swaps (swap k n m (isListed M) (isAllowed T)) s p₃
   same-swaps = ap₂ (λ (f : ℕ → ℕ → Bool) (h : ℕ → ℕ → ℕ → Bool). section 0 most-swaps (swap k n m f h) s p₃) (sym (says-listed (R .risers))) (sym (says-allowed R))
 
-  pub no-swaps : {P : Sheet → Type 0} {q w : ℕ} → r ≡ Number.Refused q w → Answers tellSheet (jobSheet s p) (Head.Refused q w) P
-  no-swaps e = answer-refused tellSheet (rules-read R ∙ rw (same-swaps ∙ count-refused a e))
+  pub no-swaps : {q w : ℕ} → r ≡ Number.Refused q w → jobSheet s p ≡ refused q w
+  no-swaps e = rules-read R ∙ rw (same-swaps ∙ count-refused a e)
 
   pub swaps-got : {c p₄ : ℕ} → G₀ ≡ replicate most-swaps (identity most-carriers) → r ≡ Number.Read c p₄ → GotSwaps s p k n m c p₄ M T E G
   swaps-got {c} {p₄} b e =
@@ -207,9 +207,9 @@ module _ (s : List ℕ) (p : ℕ) {k n m c p₄ : ℕ} {M T E : List ℕ} {G : L
   swaps-read : jobSheet s p ≡ last s k (W .rules .risers .ls) (W .rules .rs) (W .gs) p₄
   swaps-read = rules-read (W .rules) ∙ rw (W .read)
 
-  pub more-bytes : {P : Sheet → Type 0} → (p₄ ≡ length s → ⊥) → Answers tellSheet (jobSheet s p) (Head.Refused 9 p₄) P
+  pub more-bytes : (p₄ ≡ length s → ⊥) → jobSheet s p ≡ refused 9 p₄
   unfolding nothingMore
-  more-bytes e = answer-refused tellSheet (swaps-read ∙ rw (ne-eqb p₄ (length s) e))
+  more-bytes e = swaps-read ∙ rw (ne-eqb p₄ (length s) e)
 
   abbrev whole-sheet : Sheet
   whole-sheet = record { carriers = k; lists = W .rules .risers .ls; rules = W .rules .rs; swaps = W .gs }
