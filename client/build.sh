@@ -58,7 +58,10 @@ built() {
     mkdir -p "$client"
     alone
     if ! current "$file" "$@"; then
-        say "proves and builds $file, which takes minutes from nothing; target/client/log says how far it is"
+        case $command in
+        rt\ *) say "proves and builds $file, which takes minutes from nothing; target/client/log says how far it is" ;;
+        *) say "builds $file" ;;
+        esac
         if ! remake "$file" "$command" "$@" >"$client/log" 2>&1 </dev/null 9>&-; then
             tail -n 20 "$client/log" >&2
             say "it could not be built; target/client/log has all that was said"
