@@ -1,10 +1,13 @@
-# For scripts that run something built over the proved library. They set `top` to the top of the repository, read this file, and call
+# For scripts that run something proved. They set `top` to the top of the repository, read this file, and call
 #
-#   library                        proves and builds target/staticlib/libsaucewagon_c.a, which takes minutes from nothing
+#   program                        proves and builds target/bin/saucewagon, the planner as a program
+#   library                        proves and builds target/staticlib/libsaucewagon_c.a, the planner as a library
 #   built FILE COMMAND SOURCE ..   makes a file by a command; it and the sources, files or directories, are named from the top
 #
-# Either works only where a source, or the file itself, changed since the last time; it ends the script with status 2 where it fails.
+# Each works only where a source, or the file itself, changed since the last time, says on standard error that it works, and ends the
+# script with status 2 where it fails. From nothing the first two take minutes. Scripts that run at the same time build one after another.
 archive=target/staticlib/libsaucewagon_c.a
+planner=target/bin/saucewagon
 client=$top/target/client
 
 # A sum of all that a file is made from.
@@ -13,7 +16,7 @@ sources() (
     {
         rt version
         cat crates.txt
-        find "$@" -type f \( -name '*.rt' -o -name '*.antt' -o -name '*.rs' -o -name '*.a' \) -exec sha256sum {} + | sort
+        find "$@" -type f \( -name '*.rt' -o -name '*.antt' -o -name '*.rs' -o -name '*.c' -o -name '*.h' -o -name '*.a' \) -exec sha256sum {} + | sort
     } | sha256sum
 )
 
@@ -37,21 +40,37 @@ remake() (
     $command && echo "$from$(product "$made")" >"$client/${made##*/}.from"
 )
 
+# Says something on standard error, after the script's name.
+say() { echo "${0##*/}: $*" >&2; }
+
+# Waits until no other script builds; descriptor 9 is ours from then on.
+alone() {
+    exec 9>"$client/lock"
+    command -v flock >/dev/null || return 0
+    flock -n 9 || { say "waits for another build to end" && flock 9; }
+}
+
 built() {
     file=$1 command=$2
     shift 2
+    command -v rt >/dev/null || { say "needs rt, of the Rattle kit, on the path" && exit 2; }
     ! current "$file" "$@" || return 0
     mkdir -p "$client"
-    [ ! -t 2 ] || echo "${0##*/}: proving and building; from nothing this takes minutes" >&2
-    # one at a time
-    exec 9>"$client/lock"
-    ! command -v flock >/dev/null || flock 9
-    if ! current "$file" "$@" && ! remake "$file" "$command" "$@" >"$client/log" 2>&1 </dev/null 9>&-; then
-        tail -n 20 "$client/log" >&2
-        echo "${0##*/}: it could not be built; target/client/log has all that was said" >&2
-        exit 2
+    alone
+    if ! current "$file" "$@"; then
+        case $command in
+        rt\ *) say "proves and builds $file, which takes minutes from nothing; target/client/log says how far it is" ;;
+        *) say "builds $file" ;;
+        esac
+        if ! remake "$file" "$command" "$@" >"$client/log" 2>&1 </dev/null 9>&-; then
+            tail -n 20 "$client/log" >&2
+            say "it could not be built; target/client/log has all that was said"
+            exit 2
+        fi
     fi
     exec 9>&-
 }
 
 library() { built "$archive" "rt staticlib saucewagon_c" crates; }
+
+program() { built "$planner" "rt check saucewagon" crates; }

@@ -7,7 +7,8 @@
 #include <stdio.h>
 #include "saucewagon.h"
 
-static uint8_t sheet[30215];
+/* One byte more than the longest sheet, so that a longer one is refused and not cut. */
+static uint8_t sheet[SAUCEWAGON_LONGEST + 1];
 static uint8_t bytes[24576];
 static uint64_t sizes[2048];
 
@@ -23,7 +24,7 @@ int main(void)
     size_t length = fread(sheet, 1, sizeof sheet, stdin);
     uint64_t place, listed, opened, total, size;
     uint64_t number = saucewagon_list(sheet, length, 1000000, bytes, sizeof bytes, sizes, 2048, &place, &listed, &opened, &total);
-    if (number != 0) {
+    if (number != SAUCEWAGON_ACCEPTED) {
         printf("refused %" PRIu64 " at %" PRIu64 "\n", number, place);
         return 0;
     }
@@ -35,7 +36,7 @@ int main(void)
         printf("%" PRIu64 "\n", sizes[line]);
     }
 
-    uint8_t row[12], first[12], member[15];
+    uint8_t row[SAUCEWAGON_RISERS], first[SAUCEWAGON_RISERS], member[SAUCEWAGON_CARRIERS];
     const uint8_t *list = sheet + 2;
     for (size_t riser = 0; riser < risers; riser++) {
         row[riser] = list[list[0]];

@@ -1,4 +1,4 @@
-//! Document 01's meanings by brute force: every row, every product of the swaps, the least over all images.
+//! The meanings of docs/SHEET.md by brute force: every row, every product of the swaps, the least over all images.
 //!
 //!   sheet      the job sheet, its reader with refusals 1 to 9, and its writer
 //!   group      products of swaps, images of a row, membership
@@ -10,12 +10,14 @@
 //!   edges      sheets and questions at the limits
 //!   questions  the seeded run of questions
 //!   trials     the questions of the gate, in a compact form
+//!   help       `--help` of the programs
 
 pub mod answer;
 pub mod chance;
 pub mod damage;
 pub mod edges;
 pub mod group;
+pub mod help;
 pub mod line;
 pub mod questions;
 pub mod shapes;

@@ -6,7 +6,7 @@ use brute::group::{class_by_members, folded, images_by_swaps, moved, packed, pro
 use brute::shapes;
 use brute::sheet::{read, LONGEST};
 
-/// What is written is read back, and the longest sheet is as long as document 01 says.
+/// What is written is read back, and the longest sheet is as long as docs/SHEET.md says.
 #[test]
 fn reads_what_is_written() {
     let mut chance = Chance::new(1);

@@ -15,6 +15,9 @@ use std::process::ExitCode;
 const STEPS: u64 = 1_000_000_000;
 
 fn main() -> io::Result<ExitCode> {
+    if brute::help::asked(include_str!("brute.rs")) {
+        return Ok(ExitCode::SUCCESS);
+    }
     let words: Vec<String> = std::env::args().skip(1).collect();
     match words.iter().map(String::as_str).collect::<Vec<_>>()[..] {
         [] => answer_lines(),

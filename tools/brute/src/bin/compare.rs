@@ -13,6 +13,9 @@ use std::fs;
 use std::process::ExitCode;
 
 fn main() -> ExitCode {
+    if brute::help::asked(include_str!("compare.rs")) {
+        return ExitCode::SUCCESS;
+    }
     let paths: Vec<String> = std::env::args().skip(1).collect();
     let [questions, brute, other] = &paths[..] else {
         eprintln!("compare: takes QUESTIONS BRUTE OTHER");

@@ -16,6 +16,9 @@ const ROWS: usize = 100;
 const ALLOWANCE: u64 = 200;
 
 fn main() -> io::Result<ExitCode> {
+    if brute::help::asked(include_str!("every.rs")) {
+        return Ok(ExitCode::SUCCESS);
+    }
     let words: Vec<String> = std::env::args().skip(1).collect();
     let [Ok(seed)] = words.iter().map(|word| word.parse()).collect::<Vec<_>>()[..] else {
         eprintln!("every: takes SEED");

@@ -7,6 +7,9 @@ use std::io::{self, Write};
 use std::process::ExitCode;
 
 fn main() -> io::Result<ExitCode> {
+    if brute::help::asked(include_str!("generate.rs")) {
+        return Ok(ExitCode::SUCCESS);
+    }
     let words: Vec<String> = std::env::args().skip(1).collect();
     match asked_run(&words) {
         Ok((mut run, count)) => {

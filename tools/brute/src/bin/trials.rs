@@ -9,6 +9,9 @@ use std::fs;
 use std::process::ExitCode;
 
 fn main() -> ExitCode {
+    if brute::help::asked(include_str!("trials.rs")) {
+        return ExitCode::SUCCESS;
+    }
     let words: Vec<String> = std::env::args().skip(1).collect();
     match made(&words) {
         Ok(missing) if missing.is_empty() => ExitCode::SUCCESS,
