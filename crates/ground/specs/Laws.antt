@@ -15,6 +15,7 @@
 --   Spelling, Valid       a sheet has one spelling, and is accepted exactly if it is valid
 --   Sheets                an accepted sheet, fact by fact; its group keeps rows, rules and plans
 --   Numbers               a sheet is refused by a number from 1 to 9
+--   Fullest               the sheet with every list, rule and pair that there can be is valid
 --   Longest               no accepted sheet is longer than 30,214 bytes
 --   Choices, Images       all rows drawn from lists, all images of a row, all members, as lists
 pub mod Lists
@@ -39,6 +40,7 @@ pub mod Spelling
 pub mod Valid
 pub mod Sheets
 pub mod Numbers
+pub mod Fullest
 pub mod Longest
 pub mod Choices
 pub mod Images

@@ -1,4 +1,7 @@
 -- No accepted sheet is longer than 30,214 bytes: the counts, 12 lists of 15 carriers, 66 rules of 225 pairs and 8 swaps of 15 entries.
+--
+--   longest   30,214, the length of the longest sheet in bytes
+--
 -- Assumes nothing.
 use mathlib.Core.Path.{_≡_, refl, ap, subst}
 use mathlib.Core.List.{List, [], _∷_, _++_, List·Memᴰ·head, List·Memᴰ·tail}
@@ -19,6 +22,15 @@ use Rattle.ground.specs.Laws.Rows.{Below}
 use Rattle.ground.specs.Laws.Spelling.{each-written, writeList, writePair, writeRule, written, one-spelling}
 use Rattle.ground.specs.Laws.Valid.{Valid, accepted-valid}
 use Rattle.ground.specs.Laws.Sheets.{Sound, valid-sound, valid-rule, Ascends, ascends-once}
+
+abbrev pub longest : ℕ
+longest = 30214
+
+-- items of m bytes each
+pub written-exact : {A : Type 0} (w : A → List ℕ) (m : ℕ) (l : List A) → ((x : A) → x ∈ l → length (w x) ≡ m) → length (each-written w l) ≡ length l * m
+written-exact w m [] f = omega arith
+written-exact w m (x ∷ l) f =
+    omega (arith, length-append (w x) (each-written w l), f x (List·Memᴰ·head refl), written-exact w m l (λ y i. f y (List·Memᴰ·tail i)))
 
 -- items of at most m bytes each
 written-most : {A : Type 0} (w : A → List ℕ) (m : ℕ) (l : List A) → ((x : A) → x ∈ l → length (w x) ≤ m) → length (each-written w l) ≤ length l * m
@@ -49,7 +61,7 @@ module _ (X : Sheet) (v : Valid X) where
   swap-most : (g : List ℕ) → g ∈ X .swaps → length g ≤ 15
   swap-most g m = omega (arith, Z .perms g m .size, Z .few-carriers)
 
-  pub written-longest : length (written X) ≤ 30214
+  pub written-longest : length (written X) ≤ longest
   written-longest =
       let ls = each-written writeList (X .lists) in
       let rs = each-written writeRule (X .rules) in
@@ -59,7 +71,7 @@ module _ (X : Sheet) (v : Valid X) where
       let c = written-most (λ (g : List ℕ). g) 15 (X .swaps) swap-most in
       omega (arith, length-append ls (length (X .rules) ∷ (rs ++ (length (X .swaps) ∷ gs))), length-append rs (length (X .swaps) ∷ gs), Z .few-risers, Z .few-rules, Z .few-swaps)
 
-pub accepted-longest : (s : List ℕ) (X : Sheet) → Accepted s X → length s ≤ 30214
+pub accepted-longest : (s : List ℕ) (X : Sheet) → Accepted s X → length s ≤ longest
 accepted-longest s X a =
     let e : length s ≡ length (written X) = ap (λ (l : List ℕ). length l) (one-spelling s X (a .end) (a .read)) in
     omega (arith, written-longest X (accepted-valid s X (a .end) (a .read)))
