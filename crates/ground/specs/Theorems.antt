@@ -4,7 +4,7 @@
 --   OneAnswer      no second answer fits, for listing and for folding
 --   Listed         demands 2 and 3 for whatever fits the meaning of a listing, so for the code
 --   Folded         demand 2 for whatever fits the meaning of folding; where one member carries the row, it is settled too
---   LongestSheet   the longest sheet is 30,214 bytes
+--   LongestSheet   the longest sheet is 30,214 bytes, and one byte more decides every sheet
 --   Reckoned       every call has an answer, found by trying all rows and all images
 pub mod Kinds
 pub mod OneAnswer

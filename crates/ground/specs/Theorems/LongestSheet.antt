@@ -1,22 +1,25 @@
--- The longest sheet is 30,214 bytes: no accepted sheet is longer, and one has that length.
+-- The longest sheet is 30,214 bytes: no accepted sheet is longer, and one has that length (`longest-sheet`). The first 30,215 bytes
+-- decide every sheet: they are accepted, refused and listed as all its bytes are (`first-accepted`, `first-refused`, `first-lists`).
 --
 --   longestSheet   15 carriers, 12 risers with full lists, all 66 rules of all 225 pairs, 8 swaps
 --   Longest n      some accepted sheet is n bytes long, and none is longer
 --
 -- Assumes nothing.
 use mathlib.Core.Path.{_≡_, refl, sym, ap, subst, _∙_}
-use mathlib.Core.List.{List, _∷_, _++_}
+use mathlib.Core.Logic.{_↔_}
+use mathlib.Core.List.{List, [], _∷_, _++_, List·Memᴰ·head, List·Memᴰ·tail}
 use Prim.Native.Nat.{ℕ, _+_, _*_, _≤_}
 use native.Mathlib.Omega.{arith}
-use lib.ListN.{length, length-append}
+use lib.ListN.{length, take, length-append}
 use Rattle.ground.specs.Meanings.Exactly.{_∈_}
 use Rattle.ground.specs.Meanings.Group.{identity}
-use Rattle.ground.specs.Meanings.Sheet.{Sheet, Rule, Accepted, most-carriers, most-risers, most-rules, most-pairs, most-swaps}
+use Rattle.ground.specs.Meanings.Sheet.{Sheet, Rule, Accepted, Refused, most-carriers, most-risers, most-rules, most-pairs, most-swaps}
+use Rattle.ground.specs.Meanings.Listing.{Left, Lists}
 use Rattle.ground.specs.Laws.Permutations.{perm-identity}
 use Rattle.ground.specs.Laws.Spelling.{each-written, writeList, writePair, writeRule, written}
 use Rattle.ground.specs.Laws.Valid.{Counted, Valid, valid-accepted}
 use Rattle.ground.specs.Laws.Fullest.{blocks, table, mem-table, length-table, full, length-full, grid, length-grid, freeRule, rulesOf, mem-rulesOf, fullest, fullest-valid}
-use Rattle.ground.specs.Laws.Longest.{longest, written-exact, accepted-longest}
+use Rattle.ground.specs.Laws.Longest.{longest, first-bytes, accepted-longest}
 
 unfoldable pub longestSheet : Sheet
 longestSheet = fullest most-carriers most-risers most-swaps
@@ -36,6 +39,12 @@ longest-valid =
 
 pub longest-accepted : Accepted (written longestSheet) longestSheet
 longest-accepted = let w = valid-accepted longestSheet longest-valid (written longestSheet) refl in record { end = w .0; read = w .1 }
+
+-- items of m bytes each
+written-exact : {A : Type 0} (w : A → List ℕ) (m : ℕ) (l : List A) → ((x : A) → x ∈ l → length (w x) ≡ m) → length (each-written w l) ≡ length l * m
+written-exact w m [] f = omega arith
+written-exact w m (x ∷ l) f =
+    omega (arith, length-append (w x) (each-written w l), f x (List·Memᴰ·head refl), written-exact w m l (λ y i. f y (List·Memᴰ·tail i)))
 
 list-long : (l : List ℕ) → l ∈ table most-risers (λ r. full most-carriers) → length (writeList l) ≡ 1 + most-carriers
 list-long l m = ap (λ (x : List ℕ). length (writeList x)) (mem-table most-risers (λ r. full most-carriers) m .2) ∙ omega (arith, length-full most-carriers)
@@ -70,3 +79,26 @@ pub record Longest (n : ℕ) : Type 0 where
 -- the longest sheet is 30,214 bytes
 pub longest-sheet : Longest longest
 longest-sheet = record { bytes = written longestSheet; sheet = longestSheet; accepted = longest-accepted; reached = longest-long; none-longer = accepted-longest }
+
+-- ---- one byte more decides every sheet
+
+module _ (s : List ℕ) where
+  abbrev first : List ℕ
+  first = take (longest + 1) s
+
+  pub first-accepted : (X : Sheet) → Accepted first X ↔ Accepted s X
+  first-accepted X = (λ a. record { end = a .end; read = sym (first-bytes s) ∙ a .read }, λ a. record { end = a .end; read = first-bytes s ∙ a .read })
+
+  pub first-refused : (number place : ℕ) → Refused first number place ↔ Refused s number place
+  first-refused number place = (λ r. record { read = sym (first-bytes s) ∙ r .read }, λ r. record { read = first-bytes s ∙ r .read })
+
+  pub first-lists : (allowance : ℕ) (bytes sizes : List ℕ) (o : Left) → Lists first allowance bytes sizes o ↔ Lists s allowance bytes sizes o
+  first-lists allowance bytes sizes o = (forth, back)
+    where
+      forth : {o : Left} → Lists first allowance bytes sizes o → Lists s allowance bytes sizes o
+      forth (Lists.faulty {number = q} {place = p} r) = Lists.faulty (first-refused q p .0 r)
+      forth (Lists.sheet {X = X} a l) = Lists.sheet (first-accepted X .0 a) l
+
+      back : {o : Left} → Lists s allowance bytes sizes o → Lists first allowance bytes sizes o
+      back (Lists.faulty {number = q} {place = p} r) = Lists.faulty (first-refused q p .1 r)
+      back (Lists.sheet {X = X} a l) = Lists.sheet (first-accepted X .1 a) l
