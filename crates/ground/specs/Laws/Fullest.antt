@@ -13,17 +13,17 @@
 -- Assumes nothing.
 use mathlib.Core.Path.{_≡_, refl, sym, ap, _∙_, subst}
 use mathlib.Core.Logic.{inl, inr}
-use mathlib.Core.Bool.{Bool, true, false, not, _&&_, _||_}
-use mathlib.Core.List.{List, [], _∷_, _++_, map, List·Memᴰ·head, List·Memᴰ·tail, List·Memᴰ·not-nil, List·Memᴰ·cases-cons, List·Memᴰ·eq-of-singleton, Memᴰ·append-left, Memᴰ·append-right, List·Memᴰ·append-cases}
+use mathlib.Core.Bool.{Bool, true, false}
+use mathlib.Core.List.{List, [], _∷_, _++_, map, List·Memᴰ·head, List·Memᴰ·tail, List·Memᴰ·not-nil, List·Memᴰ·eq-of-singleton, Memᴰ·append-left, Memᴰ·append-right, List·Memᴰ·append-cases}
 use Prim.Native.Nat.{ℕ, zero, suc, _+_, _-_, _*_, _≤_, _<_, suc-le-suc}
 use native.Mathlib.Nat.{le-of-suc-le-suc, not-suc-le-zero}
 use native.Mathlib.Omega.{arith}
 use borrow.Author.Tests.{lt-ltb, le-ltb, le-leb, leb-true, eq-eqb}
-use lib.Dec.{ltb, leb, eqb}
-use lib.ListN.{length, getD, length-append}
+use lib.Dec.{ltb, leb}
+use lib.ListN.{length, length-append}
 use Rattle.ground.specs.Meanings.Exactly.{_∈_}
-use Rattle.ground.specs.Meanings.Group.{at, identity}
-use Rattle.ground.specs.Meanings.Sheet.{Sheet, Rule, Pair, after, before, isIn, implies, keepsCarrier, keepsList, keepsPair, keepsRule, each, listedIn, allowedBy, most-carriers, most-risers, most-rules, most-pairs, most-swaps}
+use Rattle.ground.specs.Meanings.Group.{identity}
+use Rattle.ground.specs.Meanings.Sheet.{Sheet, Rule, Pair, after, before, isIn, implies, keepsCarrier, keepsPair, each, listedIn, allowedBy, most-carriers, most-risers, most-rules, most-pairs, most-swaps}
 use Rattle.ground.specs.Laws.Lists.{mem-getD}
 use Rattle.ground.specs.Laws.Permutations.{at-identity, perm-identity}
 use Rattle.ground.specs.Laws.Newness.{perm-allNew}

@@ -18,7 +18,7 @@ use Rattle.ground.specs.Meanings.Listing.{Left, Lists}
 use Rattle.ground.specs.Laws.Permutations.{perm-identity}
 use Rattle.ground.specs.Laws.Spelling.{each-written, writeList, writePair, writeRule, written}
 use Rattle.ground.specs.Laws.Valid.{Counted, Valid, valid-accepted}
-use Rattle.ground.specs.Laws.Fullest.{blocks, table, mem-table, length-table, full, length-full, grid, length-grid, freeRule, rulesOf, mem-rulesOf, fullest, fullest-valid}
+use Rattle.ground.specs.Laws.Fullest.{blocks, table, mem-table, length-table, full, length-full, grid, length-grid, rulesOf, mem-rulesOf, fullest, fullest-valid}
 use Rattle.ground.specs.Laws.Longest.{longest, first-bytes, accepted-longest}
 
 unfoldable pub longestSheet : Sheet
