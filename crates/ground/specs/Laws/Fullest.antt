@@ -4,8 +4,10 @@
 --   table n f        the items f 0, .. , f (n − 1)
 --   Sorted b l       each item of l comes before all later ones, by the test b
 --   full k           the carriers 0 to k − 1
+--   pair u v         the pair (u, v)
 --   grid k           all pairs of them, by the left, then by the right
---   rulesOf k n      between every two of n risers the rule that allows all pairs
+--   freeRule k a b   the rule between the risers a and b that allows all pairs
+--   rulesOf k n      that rule for every two of n risers
 --   fullest k n c    k carriers, n risers with full lists, all those rules, and c times the identity
 --
 -- Sorted items run as a sheet asks (`run-sorted`), the identity is a swap of every sheet (`identity-valid`), and so the fullest
@@ -206,7 +208,6 @@ grid-run k inLeft inRight f g =
 
 -- ---- all rules
 
--- the rule between the risers a and b that allows all pairs
 abbrev pub freeRule : ℕ → ℕ → ℕ → Rule
 freeRule k a b = record { risers = pair a b; pairs = grid k }
 
