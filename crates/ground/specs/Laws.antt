@@ -15,7 +15,9 @@
 --   Spelling, Valid       a sheet has one spelling, and is accepted exactly if it is valid
 --   Sheets                an accepted sheet, fact by fact; its group keeps rows, rules and plans
 --   Numbers               a sheet is refused by a number from 1 to 9
---   Longest               no accepted sheet is longer than 30,214 bytes
+--   Looks                 how far a reading looks
+--   Fullest               the sheet with every list, rule and pair that there can be is valid
+--   Longest               no accepted sheet is longer than 30,214 bytes, and one byte more decides every sheet
 --   Choices, Images       all rows drawn from lists, all images of a row, all members, as lists
 pub mod Lists
 pub mod Enumerations
@@ -39,6 +41,8 @@ pub mod Spelling
 pub mod Valid
 pub mod Sheets
 pub mod Numbers
+pub mod Looks
+pub mod Fullest
 pub mod Longest
 pub mod Choices
 pub mod Images

@@ -16,6 +16,7 @@ use lib.ListN.{length, getD, length-append, length-map}
 use Rattle.ground.specs.Meanings.Exactly.{_∈_, Once, Enumerates}
 use Rattle.ground.specs.Meanings.Group.{at, _≼_}
 use Rattle.ground.specs.Meanings.Listing.{Ascending}
+use Rattle.ground.specs.Laws.Lists.{nil-of}
 use Rattle.ground.specs.Laws.Enumerations.{enum-append, enum-iff, once-map, filter, kept, filter-in}
 use Rattle.ground.specs.Laws.Sheets.{Ascends}
 
@@ -80,10 +81,6 @@ from-cons l ls c r m f (suc i) h = f i (omega arith)
 
 from-tail : (l : List ℕ) (ls : List (List ℕ)) (c : ℕ) (r : List ℕ) → ((i : ℕ) → i < suc (length r) → at (c ∷ r) i ∈ getD (l ∷ ls) i []) → (i : ℕ) → i < length r → at r i ∈ getD ls i []
 from-tail l ls c r f i h = f (suc i) (omega arith)
-
-nil-of : (r : List ℕ) → length r ≡ 0 → r ≡ []
-nil-of [] e = refl
-nil-of (x ∷ r) e = absurd (omega arith)
 
 pub choices-enum : (ls : List (List ℕ)) → ((l : List ℕ) → l ∈ ls → Once l) → Enumerates (Drawn ls) (choices ls)
 choices-enum [] f = record {

@@ -30,6 +30,11 @@ at-map f [] x h = absurd (not-suc-le-zero h)
 at-map f (a ∷ l) zero h = refl
 at-map f (a ∷ l) (suc x) h = at-map f l x (le-of-suc-le-suc h)
 
+-- a list of no length is empty
+pub nil-of : {A : Type 0} (l : List A) → length l ≡ 0 → l ≡ []
+nil-of [] e = refl
+nil-of (x ∷ l) e = absurd (omega arith)
+
 -- ---- membership
 
 -- what stands at a place below n is among the first n

@@ -39,6 +39,9 @@ written x = x .carriers ∷ length (x .lists) ∷ (each-written writeList (x .li
 pub got-same : {A : Type 0} {x y : A} {p q : ℕ} → got x p ≡ got y q → x ≡ y
 got-same e = cc
 
+pub got-at : {A : Type 0} {x y : A} {p q : ℕ} → got x p ≡ got y q → p ≡ q
+got-at e = cc
+
 -- as many items are got as were to be read
 pub many-count : {A : Type 0} (one : List A → Reading A) (s : List ℕ) (n at : ℕ) (l : List A) (p : ℕ) → many one n [] s at ≡ got l p → n ≡ length l
 many-count one s n at l p e = let h = many-length one s n [] at l p e in omega arith
@@ -59,7 +62,7 @@ field-spells w s at x p e = go (leb (at + w) (length s)) e
 checked-spells : {A : Type 0} (q : ℕ) (t : A → Bool) (m : Reading A) (w : A → List ℕ) → Spells m w → Spells (checked q t m) w
 checked-spells q t m w h s at x p e = h s at x p (checked-passed q t m s at e .1)
 
-field-length : (w : ℕ) (s : List ℕ) (at : ℕ) (x : List ℕ) (p : ℕ) → field w s at ≡ got x p → at + w ≤ length s
+pub field-length : (w : ℕ) (s : List ℕ) (at : ℕ) (x : List ℕ) (p : ℕ) → field w s at ≡ got x p → at + w ≤ length s
 unfolding field
 field-length w s at x p e = go (leb (at + w) (length s)) refl e
   where
@@ -140,7 +143,7 @@ swap-spells : (k n m : ℕ) (listed : ℕ → ℕ → Bool) (allows : ℕ → �
 unfolding swap
 swap-spells k n m listed allows done = checked-spells 8 _ _ (λ (g : List ℕ). g) (checked-spells 7 _ _ (λ (g : List ℕ). g) (checked-spells 6 _ (field k) (λ (g : List ℕ). g) (field-spells k)))
 
-more-spells : (s : List ℕ) (at : ℕ) (x : Unit) (p : ℕ) → nothingMore s at ≡ got x p → (at ≡ length s) × (p ≡ at)
+pub more-spells : (s : List ℕ) (at : ℕ) (x : Unit) (p : ℕ) → nothingMore s at ≡ got x p → (at ≡ length s) × (p ≡ at)
 unfolding nothingMore
 more-spells s at x p e = go (eqb at (length s)) refl e
   where

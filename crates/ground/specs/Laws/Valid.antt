@@ -129,8 +129,8 @@ pub record Valid (x : Sheet) : Type 0 where
   pub swap-count : Counted 0 most-swaps (length (x .swaps))
   pub swaps : Run (ValidSwap (x .carriers) (length (x .lists)) (length (x .rules)) (listedIn (x .lists)) (allowedBy (x .rules))) [] (x .swaps)
 
-some-carrier : (k : ℕ) → (leb 1 k && leb k 15) ≡ true → 0 < k
-some-carrier k e = leb-true 1 k (and-left (leb 1 k) (leb k 15) e)
+some-carrier : (k : ℕ) → (leb 1 k && leb k most-carriers) ≡ true → 0 < k
+some-carrier k e = leb-true 1 k (and-left (leb 1 k) (leb k most-carriers) e)
 
 module _ (x : Sheet) (v : Valid x) (s : List ℕ) where
   abbrev k : ℕ
@@ -175,7 +175,7 @@ module _ (x : Sheet) (v : Valid x) (s : List ℕ) where
 
 -- ---- what is accepted is valid
 
-abbrev Gives : {A : Type 0} → Reading A → (A → Type 0) → Type 0
+abbrev pub Gives : {A : Type 0} → Reading A → (A → Type 0) → Type 0
 Gives {A} m Good = (s : List ℕ) (at : ℕ) (x : A) (p : ℕ) → m s at ≡ got x p → Good x
 
 many-gives : {A : Type 0} (one : List A → Reading A) (Good : List A → A → Type 0) → ((done : List A) → Gives (one done) (Good done)) → (n : ℕ) (done : List A) (s : List ℕ) (at : ℕ) (l : List A) (p : ℕ) → many one n done s at ≡ got l p → (new : List A) × (l ≡ done ++ new) × Run Good done new
@@ -192,7 +192,7 @@ many-run one Good h n s at l p e = let r = many-gives one Good h n [] s at l p e
 checked-gives : {A : Type 0} (q : ℕ) (t : A → Bool) (m : Reading A) (Good : A → Type 0) → Gives m Good → Gives (checked q t m) (λ x. Good x × (t x ≡ true))
 checked-gives q t m Good h s at x p e = let z = checked-passed q t m s at e in (h s at x p (z .1), z .0)
 
-count-gives : (a b : ℕ) → Gives (count a b) (Counted a b)
+pub count-gives : (a b : ℕ) → Gives (count a b) (Counted a b)
 unfolding count
 count-gives a b = checked-gives 2 (λ c. leb a c && leb c b) byte (λ (c : ℕ). Unit) (λ s at x p e. tt)
 

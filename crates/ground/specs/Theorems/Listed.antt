@@ -6,6 +6,8 @@
 -- (`accepted-listing`); each plan is an image of exactly one of them, and the sizes sum to the total (`each-plan-once`,
 -- `sizes-total`). On a sheet without fault the allowance refuses exactly when the number of opened rows is larger
 -- (`allowance-refuses`), the room exactly when the allowance does not and more plans are listed than it holds (`room-refuses`).
+-- Where neither does, what is left is the whole listing and nothing else (`enough-listed`, `enough-accepted`). Where the allowance
+-- does not refuse, the number of listed plans is 0 exactly if no plan exists (`listed-none`).
 -- Assumes nothing.
 use mathlib.Core.Path.{_≡_, refl, sym, ap, subst, _∙_}
 use mathlib.Core.Logic.{_↔_}
@@ -15,13 +17,14 @@ use native.Mathlib.Omega.{arith}
 use lib.ListN.{length}
 use Rattle.ground.specs.Meanings.Sheet.{Sheet, Accepted}
 use Rattle.ground.specs.Meanings.Plans.{risers, Plan, OpenedIs, TotalIs}
-use Rattle.ground.specs.Meanings.Listing.{Line, Listing, rowsOf, sizesOf, flat, over, room, Left, ListsOn, beyond-allowance, beyond-room, listed, Lists}
+use Rattle.ground.specs.Meanings.Listing.{Line, Listing, rowsOf, sizesOf, flat, over, room, Left, left, ListsOn, beyond-allowance, beyond-room, listed, Lists}
+use Rattle.ground.specs.Laws.Lists.{nil-of}
 use Rattle.ground.specs.Laws.Enumerations.{counts-same}
 use Rattle.ground.specs.Laws.Classes.{total}
 use Rattle.ground.specs.Laws.Sheets.{accepted-sound}
 use Rattle.ground.specs.Laws.Numbers.{refused-low}
-use Rattle.ground.specs.Theorems.Kinds.{ListedFor, one-listed, sizes-sum, one-listing}
-use Rattle.ground.specs.Theorems.OneAnswer.{accepted-same, accepted-not-refused}
+use Rattle.ground.specs.Theorems.Kinds.{ListedFor, one-listed, sizes-sum, none-listed, one-listing}
+use Rattle.ground.specs.Theorems.OneAnswer.{accepted-same, accepted-not-refused, lists-on-one}
 
 pub record WholeListing (s : List ℕ) (bytes sizes : List ℕ) (o : Left) : Type 0 where
   pub sheet : Sheet
@@ -78,3 +81,25 @@ module _ (s : List ℕ) (X : Sheet) (a : Accepted s X) (allowance : ℕ) (bytes 
   -- 11 exactly when the allowance does not refuse and there is no room for all listed plans
   pub room-refuses : {o : Left} {n : ℕ} {F : List Line} → OpenedIs X n → Listing X F → Lists s allowance bytes sizes o → (o .number ≡ 11) ↔ ((n ≤ allowance) × (room (risers X) bytes sizes < length F))
   room-refuses c L l = refuses-crowded c L (on-sheet l)
+
+  -- demand 2 with its own premise: the allowance is enough, the room is enough; what is left is the listing
+  pub enough-listed : {o : Left} {opened total : ℕ} {F : List Line} → OpenedIs X opened → opened ≤ allowance → TotalIs X total → Listing X F → length F ≤ room (risers X) bytes sizes
+      → Lists s allowance bytes sizes o → o ≡ left 0 0 (length F) opened total (over (flat (rowsOf F)) bytes) (over (sizesOf F) sizes)
+  enough-listed c m t L r l = lists-on-one X allowance bytes sizes (on-sheet l) (listed c m t L r)
+
+  -- in particular it is accepted
+  pub enough-accepted : {o : Left} {n : ℕ} {F : List Line} → OpenedIs X n → n ≤ allowance → Listing X F → length F ≤ room (risers X) bytes sizes → Lists s allowance bytes sizes o → o .number ≡ 0
+  enough-accepted c m L r l = ap (λ (p : Left). p .number) (enough-listed c m (sizes-sum (accepted-sound s X a) L) L r l)
+
+  -- what is answered as listed counts the lines of a listing, unless the allowance refuses
+  counted-lines : {o : Left} → ListsOn X allowance bytes sizes o → ¬ (o .number ≡ 10) → (F : List Line) × Listing X F × (o .listed ≡ length F)
+  counted-lines (beyond-allowance b l) f = absurd (f refl)
+  counted-lines (beyond-room {F = F} b m t L r) f = (F, L, refl)
+  counted-lines (listed {F = F} b m t L r) f = (F, L, refl)
+
+  -- nothing is listed exactly if no plan exists
+  pub listed-none : {o : Left} → Lists s allowance bytes sizes o → ¬ (o .number ≡ 10) → (o .listed ≡ 0) ↔ ((r : List ℕ) → ¬ Plan X r)
+  listed-none {o} l f =
+      let w = counted-lines (on-sheet l) f in
+      let K = none-listed (accepted-sound s X a) (w .1) in
+      (λ e. K .0 (nil-of (w .0) (sym (w .2) ∙ e)), λ h. w .2 ∙ ap (λ (F : List Line). length F) (K .1 h))

@@ -1,5 +1,5 @@
 -- No second answer fits: what a listing leaves is settled in every number, byte and size; what folding leaves is settled in all
--- but the member, of which only what it does is fixed.
+-- but the member, of which only what it does is fixed. (Where one member alone carries the row, it is settled too: `Folded`.)
 --
 --   Agree o p           two foldings' results agree in number, place, size and the first buffer, and on a refusal in the second too
 --   Carrying X r o      the member that o wrote is a member of the group and carries r to the first image that o wrote
