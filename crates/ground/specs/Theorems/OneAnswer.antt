@@ -10,10 +10,11 @@ use mathlib.Core.List.{List}
 use Prim.Native.Nat.{ℕ, _≤_, _<_}
 use native.Mathlib.Omega.{arith}
 use lib.ListN.{length}
+use Rattle.ground.specs.Meanings.Exactly.{Counts}
 use Rattle.ground.specs.Meanings.Group.{Member, move}
 use Rattle.ground.specs.Meanings.Sheet.{Sheet, Outcome, got, refused, Accepted, Refused}
-use Rattle.ground.specs.Meanings.Plans.{risers, Swap, OpenedIs}
-use Rattle.ground.specs.Meanings.Listing.{Line, Listing, Left, left, ListsOn, beyond-allowance, beyond-room, listed, Lists, room, filled, over, flat, rowsOf, sizesOf}
+use Rattle.ground.specs.Meanings.Plans.{Swap}
+use Rattle.ground.specs.Meanings.Listing.{Line, Notion, onSheet, Listing, Left, left, ListsOn, beyond-allowance, beyond-room, listed, Lists, room, filled, over, flat, rowsOf, sizesOf}
 use Rattle.ground.specs.Meanings.Folding.{Folded, folded, FoldsOn, not-whole, not-fitting, carried, Folds}
 use Rattle.ground.specs.Laws.Enumerations.{counts-same}
 use Rattle.ground.specs.Laws.Rows.{image-by}
@@ -43,20 +44,20 @@ refused-same f s q p t r a b = same (sym (a .read) ∙ b .read)
 
 -- ---- listing
 
-module _ (X : Sheet) (allowance : ℕ) (bytes sizes : List ℕ) where
-  opened-clash : {A : Type 0} {m n : ℕ} → OpenedIs X m → OpenedIs X n → allowance < m → n ≤ allowance → A
+module _ (N : Notion) (allowance : ℕ) (bytes sizes : List ℕ) where
+  opened-clash : {A : Type 0} {m n : ℕ} → Counts (N .Opens) m → Counts (N .Opens) n → allowance < m → n ≤ allowance → A
   opened-clash a b l h = absurd (omega (arith, counts-same a b))
 
-  room-clash : {A : Type 0} {F G : List Line} → Listing X F → Listing X G → room (risers X) bytes sizes < length F → length G ≤ room (risers X) bytes sizes → A
-  room-clash {F = F} {G = G} a b l h = absurd (omega (arith, ap (λ (H : List Line). length H) (one-listing F G a b)))
+  room-clash : {A : Type 0} {F G : List Line} → Listing N F → Listing N G → room (N .wide) bytes sizes < length F → length G ≤ room (N .wide) bytes sizes → A
+  room-clash {F = F} {G = G} a b l h = absurd (omega (arith, ap (λ (H : List Line). length H) (one-listing N F G a b)))
 
-  pub lists-on-one : {o p : Left} → ListsOn X allowance bytes sizes o → ListsOn X allowance bytes sizes p → o ≡ p
+  pub lists-on-one : {o p : Left} → ListsOn N allowance bytes sizes o → ListsOn N allowance bytes sizes p → o ≡ p
   lists-on-one (beyond-allowance a l) (beyond-allowance b m) = refl
   lists-on-one (beyond-allowance a l) (beyond-room b m t F r) = opened-clash a b l m
   lists-on-one (beyond-allowance a l) (listed b m t F r) = opened-clash a b l m
   lists-on-one (beyond-room a l t F r) (beyond-allowance b m) = opened-clash b a m l
   lists-on-one (beyond-room {F = F} a l t f r) (beyond-room {F = G} b m u g s) =
-      same (one-listing F G f g) (counts-same a b) (counts-same t u)
+      same (one-listing N F G f g) (counts-same a b) (counts-same t u)
     where
       same : {F G : List Line} {m n t u : ℕ} → F ≡ G → m ≡ n → t ≡ u → left 11 0 (length F) m t (filled 255 bytes) (filled 0 sizes) ≡ left 11 0 (length G) n u (filled 255 bytes) (filled 0 sizes)
       same e f g = λ i. left 11 0 (length (e i)) (f i) (g i) (filled 255 bytes) (filled 0 sizes)
@@ -64,7 +65,7 @@ module _ (X : Sheet) (allowance : ℕ) (bytes sizes : List ℕ) where
   lists-on-one (listed a l t f r) (beyond-allowance b m) = opened-clash b a m l
   lists-on-one (listed a l t f r) (beyond-room b m u g s) = room-clash g f s r
   lists-on-one (listed {F = F} a l t f r) (listed {F = G} b m u g s) =
-      same (one-listing F G f g) (counts-same a b) (counts-same t u)
+      same (one-listing N F G f g) (counts-same a b) (counts-same t u)
     where
       same : {F G : List Line} {m n t u : ℕ} → F ≡ G → m ≡ n → t ≡ u
           → left 0 0 (length F) m t (over (flat (rowsOf F)) bytes) (over (sizesOf F) sizes) ≡ left 0 0 (length G) n u (over (flat (rowsOf G)) bytes) (over (sizesOf G) sizes)
@@ -76,7 +77,7 @@ lists-one s allowance bytes sizes (Lists.faulty a) (Lists.faulty b) = refused-sa
 lists-one s allowance bytes sizes (Lists.faulty a) (Lists.sheet b c) = absurd (accepted-not-refused s _ _ _ b a)
 lists-one s allowance bytes sizes (Lists.sheet a c) (Lists.faulty b) = absurd (accepted-not-refused s _ _ _ a b)
 lists-one s allowance bytes sizes (Lists.sheet {X = X} a c) (Lists.sheet {X = Y} {o = p} b d) =
-    lists-on-one X allowance bytes sizes c (subst (λ (W : Sheet). ListsOn W allowance bytes sizes p) (accepted-same s Y X b a) d)
+    lists-on-one (onSheet X) allowance bytes sizes c (subst (λ (W : Sheet). ListsOn (onSheet W) allowance bytes sizes p) (accepted-same s Y X b a) d)
 
 -- ---- folding
 

@@ -20,8 +20,8 @@ use lib.ListN.{length}
 use Rattle.ground.specs.Meanings.Exactly.{_∈_, Enumerates, Counts}
 use Rattle.ground.specs.Meanings.Group.{at, tab, move, First, _≼_}
 use Rattle.ground.specs.Meanings.Sheet.{most-carriers, most-risers, Sheet, Rule, Outcome, got, refused, jobSheet, isIn, isPairIn, Accepted}
-use Rattle.ground.specs.Meanings.Plans.{risers, list, Row, Allows, Keeps, Plan, ImageOn, Listable, Opened, ClassSize, OpenedIs, TotalIs}
-use Rattle.ground.specs.Meanings.Listing.{Line, rowsOf, sizesOf, Ascending, Listing, room, flat, over, filled, Left, left, ListsOn, beyond-allowance, beyond-room, listed, Lists}
+use Rattle.ground.specs.Meanings.Plans.{risers, list, Row, Allows, Keeps, Plan, ImageOn, Opened, ClassSize, OpenedIs, TotalIs}
+use Rattle.ground.specs.Meanings.Listing.{Line, rowsOf, sizesOf, Ascending, onSheet, Listable, Listing, room, flat, over, filled, Left, left, ListsOn, beyond-allowance, beyond-room, listed, Lists}
 use Rattle.ground.specs.Meanings.Folding.{Whole, Fitting, Folded, folded, FoldsOn, not-whole, not-fitting, carried, Folds}
 use Rattle.ground.specs.Laws.Lists.{all-or, length-tab, index-of}
 use Rattle.ground.specs.Laws.Enumerations.{pigeonhole, counts-same, enum-iff, enum-filter, filter, in-filter, filter-in}
@@ -172,7 +172,7 @@ module _ {X : Sheet} (Z : Sound X) where
           let p = pigeonhole l (tab (X .carriers) (λ x. x)) (ascends-once l (once-lists l m)) (λ x i. mem-range (X .carriers) x (b x i)) in
           omega (arith, length-tab (X .carriers) (λ x. x), Z .few-carriers)
 
-  listable-enum : Enumerates (Listable X) (filter (leading? X) (plansOf X))
+  listable-enum : Enumerates (Listable (onSheet X)) (filter (leading? X) (plansOf X))
   listable-enum =
       enum-iff (λ r t. record { plan = t .0; first = leading-first r (t .0 .row) (t .1) }) (λ r h. (h .plan, first-leading r (h .plan .row) (h .first)))
       (enum-filter (leading? X) plans-enum)
@@ -182,10 +182,10 @@ module _ {X : Sheet} (Z : Sound X) where
   rows-of-lines [] = refl
   rows-of-lines (r ∷ l) = ap (λ (m : List (List ℕ)). r ∷ m) (rows-of-lines l)
 
-  lines-listing : Listing X (linesOf X)
+  lines-listing : Listing (onSheet X) (linesOf X)
   unfolding linesOf plansOf line
   lines-listing = record {
-    plans = subst (Enumerates (Listable X)) (sym (rows-of-lines (filter (leading? X) (plansOf X)))) listable-enum;
+    plans = subst (Enumerates (Listable (onSheet X))) (sym (rows-of-lines (filter (leading? X) (plansOf X)))) listable-enum;
     ascends = subst Ascending (sym (rows-of-lines (filter (leading? X) (plansOf X)))) (filter-ascend (leading? X) (plansOf X) (filter-ascend (keeps? X) (choices (X .lists)) (choices-ascend (X .lists) once-lists)));
     sizes = λ l m.
         let w = Memᴰ·of-map (line X) (filter (leading? X) (plansOf X)) m in
@@ -215,7 +215,7 @@ reckonList s allowance bytes sizes = reckonRead (jobSheet s 0) allowance bytes s
 counts-of : {A : Type 0} {P : A → Type 0} {l : List A} → Enumerates P l → Counts P (length l)
 counts-of {l = l} e = record { list = l; enumerates = e; number = refl }
 
-reckoned-on : (X : Sheet) → Sound X → (allowance : ℕ) (bytes sizes : List ℕ) → ListsOn X allowance bytes sizes (reckonOn X allowance bytes sizes)
+reckoned-on : (X : Sheet) → Sound X → (allowance : ℕ) (bytes sizes : List ℕ) → ListsOn (onSheet X) allowance bytes sizes (reckonOn X allowance bytes sizes)
 unfolding reckonOn
 reckoned-on X Z allowance bytes sizes = go (ltb allowance (length (openedRows X))) refl (ltb (room (risers X) bytes sizes) (length (linesOf X))) refl
   where
@@ -226,7 +226,7 @@ reckoned-on X Z allowance bytes sizes = go (ltb allowance (length (openedRows X)
     totals = counts-of (plans-enum Z)
 
     go : (b : Bool) → ltb allowance (length (openedRows X)) ≡ b → (c : Bool) → ltb (room (risers X) bytes sizes) (length (linesOf X)) ≡ c
-        → ListsOn X allowance bytes sizes
+        → ListsOn (onSheet X) allowance bytes sizes
         (cond b (left 10 0 0 allowance 0 (filled 255 bytes) (filled 0 sizes))
         (cond c (left 11 0 (length (linesOf X)) (length (openedRows X)) (length (plansOf X)) (filled 255 bytes) (filled 0 sizes))
         (left 0 0 (length (linesOf X)) (length (openedRows X)) (length (plansOf X)) (over (flat (rowsOf (linesOf X))) bytes) (over (sizesOf (linesOf X)) sizes))))
