@@ -1,4 +1,4 @@
--- Document 01 as definitions, in the order in which they are read.
+-- What docs/SHEET.md says, as definitions, in the order in which they are read.
 --
 --   Exactly    "exactly these" and "this many"
 --   Group      swaps, their products, the group, images of a row, first

@@ -1,4 +1,4 @@
--- The sheets that document 01 works by hand and stars, proved together against the meanings: one table, one statement.
+-- Twelve sheets worked by hand, with their answers, proved together against the meanings: one table, one statement.
 --
 --   Case      a call, with all that it is given, and all that it must leave
 --   Right c   what the case says is left fits the meanings

@@ -1,4 +1,4 @@
-// The folds that document 01 works by hand, K, L and M, and a fold for each kind of refusal.
+// The folds of examples/README.md that are worked by hand, K, L and M, and a fold for each kind of refusal.
 //
 // A line has the number, the place and the size that folding answers, then the first buffer and the second as they are after the
 // call. Before the first call both are full of 255.

@@ -1,6 +1,6 @@
 -- Valid sheets: the bytes are accepted as X exactly if X is valid and they are X written out (`accepted-iff`).
 --
---   Valid X            the sheet X keeps every limit and order of document 01, section by section
+--   Valid X            the sheet X keeps every limit and order of a sheet, section by section
 --   Run Good done l    each item of l is good after those before it, `done` the first of them
 --   Takes m w Good     the reading m takes what is good, spelt by w
 --   Gives m Good       what the reading m gives is good
@@ -119,7 +119,7 @@ swap-takes : (k n m : ℕ) (listed : ℕ → ℕ → Bool) (allows : ℕ → ℕ
 unfolding swap
 swap-takes k n m listed allows h done = checked-takes 8 _ _ (λ (g : List ℕ). g) _ (checked-takes 7 _ _ (λ (g : List ℕ). g) _ (checked-takes 6 _ (field k) (λ (g : List ℕ). g) _ (field-takes k h)))
 
--- a valid sheet: document 01, section by section
+-- a valid sheet, section by section
 pub record Valid (x : Sheet) : Type 0 where
   pub carriers : Counted 1 most-carriers (x .carriers)
   pub risers : Counted 1 most-risers (length (x .lists))

@@ -1,5 +1,5 @@
 -- The job sheet: what reading its bytes gives, the sheet or the refusal with its number and place
--- (document 01, "The job sheet" and "Numbers of refusal", 1 to 9).
+-- (docs/SHEET.md, "The bytes" and "Refusals", 1 to 9).
 --
 -- A reading goes from the bytes of a sheet and a place to an outcome: what was read and the place after it, or a refusal.
 -- `do` joins readings: each starts where the one before it ended, and the first refusal is the outcome. So faults are
