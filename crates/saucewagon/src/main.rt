@@ -54,7 +54,7 @@ fn risers(sheet: &[u8]) -> usize {
     wide(sheet[1])
 }
 
-// Prints the number and the place of a refusal.
+// Prints the number and the place of a refusal, on a page that has room for one line.
 fn print_refusal(answer: Answer) {
     let mut line = [0u8; LINE];
     let mut at = put(&mut line, 0, b"refused ");
