@@ -1,17 +1,17 @@
--- `saucewagon::print_row` is safe and ends. The line keeps its length, and each turn leaves fewer carriers.
+-- `saucewagon::put_row` is safe and ends. The page keeps its length, and each turn leaves fewer carriers.
 -- Assumes nothing.
 use mathlib.Core.Path.{_≡_}
 use Prim.Native.Nat.{_≤_, _-_}
 use lib.ListN.{length}
 use borrow.Author.Needs.{needs}
-use Rattle.saucewagon.proofs.print_row.Statement.{statement}
-use Rattle.saucewagon.proofs.print_row.Tie as tie
+use Rattle.saucewagon.proofs.put_row.Statement.{statement}
+use Rattle.saucewagon.proofs.put_row.Tie as tie
 
 abbrev Inv-loop : tie.InvT-loop
-Inv-loop line₀ row size at₀ i₀ t6 i-end line at i = (length line ≡ length line₀) × (i ≤ i-end)
+Inv-loop page₀ at row size next₀ i₀ t7 i-end page next i = (length page ≡ length page₀) × (i ≤ i-end)
 
 abbrev μ-loop : tie.MeasureT-loop
-μ-loop line₀ row size at₀ i₀ t6 i-end line at i = i-end - i
+μ-loop page₀ at row size next₀ i₀ t7 i-end page next i = i-end - i
 
 loop-holds : tie.Need-loop-holds Inv-loop μ-loop
 loop-holds c = search needs
@@ -43,8 +43,8 @@ loop-again c = search needs
 put-number-requires-2 : tie.Need-put-number-requires-2 Inv-loop μ-loop
 put-number-requires-2 c κs = search needs
 
-print-line-requires : tie.Need-print-line-requires Inv-loop μ-loop
-print-line-requires c κs = search needs
+end-line-requires : tie.Need-end-line-requires Inv-loop μ-loop
+end-line-requires c κs = search needs
 
 same-length : tie.Need-same-length Inv-loop μ-loop
 same-length c = search needs
@@ -52,8 +52,8 @@ same-length c = search needs
 returns : tie.Need-returns Inv-loop μ-loop
 returns c = search needs
 
-pub print-row-spec : {M : Type 1} → statement M
-print-row-spec =
+pub put-row-spec : {M : Type 1} → statement M
+put-row-spec =
     tie.close
     (tie.spec
     Inv-loop
@@ -68,6 +68,6 @@ print-row-spec =
     loop-less
     loop-again
     put-number-requires-2
-    print-line-requires
+    end-line-requires
     same-length
     returns)
