@@ -2,7 +2,8 @@
 use ground::LONGEST;
 use listing::Answer;
 use listing::list;
-use text::print_line;
+use text::end_line;
+use text::print;
 use text::put;
 use text::put_number;
 
@@ -17,6 +18,9 @@ const SIZES: usize = 2048;
 
 // More than the longest line has.
 const LINE: usize = 128;
+
+// The length of the page that lines are put into, to be written together.
+const PAGE: usize = 8192;
 
 // Reads the sheet, one byte past the longest at most, which decides every sheet.
 fn main() {
@@ -34,8 +38,7 @@ fn report(sheet: &[u8]) {
         print_refusal(answer);
         return;
     }
-    print_head(answer);
-    print_rows(&bytes, &sizes, risers(sheet), answer.listed);
+    print_listing(answer, &bytes, &sizes, risers(sheet));
 }
 
 // A byte as a number.
@@ -51,53 +54,68 @@ fn risers(sheet: &[u8]) -> usize {
     wide(sheet[1])
 }
 
-// Prints the number and the place of a refusal.
+// Prints the number and the place of a refusal, on a page that has room for one line.
 fn print_refusal(answer: Answer) {
     let mut line = [0u8; LINE];
     let mut at = put(&mut line, 0, b"refused ");
     at = put_number(&mut line, at, wide(answer.number) as u64);
     at = put(&mut line, at, b" at ");
     at = put_number(&mut line, at, answer.place as u64);
-    print_line(&mut line, at);
+    end_line(&mut line, at, LINE);
 }
 
-// Prints how many plans are listed, how many rows were opened and how many plans there are in all.
-fn print_head(answer: Answer) {
-    let mut line = [0u8; LINE];
-    let mut at = put(&mut line, 0, b"plans ");
-    at = put_number(&mut line, at, answer.listed as u64);
-    at = put(&mut line, at, b" opened ");
-    at = put_number(&mut line, at, answer.opened);
-    at = put(&mut line, at, b" total ");
-    at = put_number(&mut line, at, answer.total);
-    print_line(&mut line, at);
+// Prints the head of a listing and a line for each listed row, a page at a time.
+fn print_listing(answer: Answer, bytes: &[u8], sizes: &[u64], risers: usize) {
+    let mut page = [0u8; PAGE];
+    let mut at = put_head(&mut page, answer);
+    at = put_rows(&mut page, at, bytes, sizes, risers, answer.listed);
+    print(&page, at);
 }
 
-// Prints a line for each listed row. By the listing's promise every one lies within the lists; to test it again is shorter than to
-// use that.
-fn print_rows(bytes: &[u8], sizes: &[u64], risers: usize, listed: usize) {
-    let mut line = [0u8; LINE];
+// Puts how many plans are listed, how many rows were opened and how many plans there are in all.
+fn put_head(page: &mut [u8], answer: Answer) -> usize {
+    let mut at = put(page, 0, b"plans ");
+    at = put_number(page, at, answer.listed as u64);
+    at = put(page, at, b" opened ");
+    at = put_number(page, at, answer.opened);
+    at = put(page, at, b" total ");
+    at = put_number(page, at, answer.total);
+    end_line(page, at, LINE)
+}
+
+// Puts a line for each listed row. By the listing's promise every one lies within the lists; to test it again is shorter than to use
+// that.
+fn put_rows(
+    page: &mut [u8],
+    at: usize,
+    bytes: &[u8],
+    sizes: &[u64],
+    risers: usize,
+    listed: usize,
+) -> usize {
+    let mut next = at;
     let mut start = 0;
     for i in 0..listed {
         if sizes.len() <= i {
-            return;
+            return next;
         }
         if bytes.len() - start < risers {
-            return;
+            return next;
         }
         let end = start + risers;
-        print_row(&mut line, &bytes[start..end], sizes[i]);
+        next = put_row(page, next, &bytes[start..end], sizes[i]);
         start = end;
     }
+    next
 }
 
-// Prints the carriers of a row, and its class size.
-fn print_row(line: &mut [u8], row: &[u8], size: u64) {
-    let mut at = 0;
+// Puts the carriers of a row, and its class size.
+fn put_row(page: &mut [u8], at: usize, row: &[u8], size: u64) -> usize {
+    let mut next = at;
     for i in 0..row.len() {
-        at = put_number(line, at, wide(row[i]) as u64);
-        at = put(line, at, b" ");
+        next = put_number(page, next, wide(row[i]) as u64);
+        next = put(page, next, b" ");
     }
-    at = put_number(line, at, size);
-    print_line(line, at);
+    next = put_number(page, next, size);
+    end_line(page, next, LINE)
 }

@@ -22,9 +22,9 @@ use Rattle.ground.specs.Laws.Members.{Perms}
 use Rattle.ground.specs.Laws.Padding.{pad}
 use Rattle.ground.specs.Laws.Sheets.{Sound, accepted-sound}
 use Rattle.sheet.specs.declared.Head.{Head}
-use Rattle.sheet.specs.Tables.{padded}
-use Rattle.sheet.specs.Answers.{tellSheet, pair}
-use Rattle.sheet.specs.Serves.{bit, risersOf, Serves, Blank, Reads}
+use Rattle.fields.specs.Tables.{padded}
+use Rattle.sheet.specs.Serves.{bit, risersOf, Serves, Blank, Reads, tellSheet}
+use Rattle.fields.specs.Answers.{pair}
 
 -- ---- which answer it was
 

@@ -20,11 +20,11 @@ use borrow.Author.Tests.{leb-true}
 use Rattle.ground.specs.Meanings.Group.{at}
 use Rattle.ground.specs.Meanings.Sheet.{got, Reading, checked, two, Pair, Rule, noRule, many, count, allowedPair, ruleThat, rule, after, before, most-risers, most-pairs}
 use Rattle.ground.specs.Laws.Reading.{andThen-got, checked-passed, and-left, and-right}
-use Rattle.sheet.specs.Tables.{putAll, key, RuleTables, putRule, markRules}
-use Rattle.sheet.specs.Answers.{pair}
-use Rattle.sheet.specs.Least.{ordered}
+use Rattle.fields.specs.Tables.{putAll, key, RuleTables, putRule, markRules}
+use Rattle.fields.specs.Answers.{pair}
+use Rattle.fields.specs.Least.{ordered}
 use Rattle.sheet.specs.Entries.{at-blank}
-use Rattle.sheet.specs.Rules.{Beyond, beyond-none, beyond-more, riserPairs, risers-snoc, ordered-left, ordered-right}
+use Rattle.rule_fields.specs.Rules.{Beyond, beyond-none, beyond-more, riserPairs, risers-snoc, ordered-left, ordered-right}
 
 abbrev pub endAt : Pair → ℕ
 endAt x = x .right * most-risers + x .left

@@ -21,9 +21,9 @@ use borrow.Author.Tests.{lt-ltb, le-ltb, ltb-true, eq-eqb, ne-eqb}
 use Rattle.ground.specs.Meanings.Group.{at}
 use Rattle.ground.specs.Meanings.Sheet.{got, many, carrier, riser, count, checked, byte, two, Pair, Rule, noRule, rule, ruleThat, allowedPair, isIn, isPairIn, after, before, listedIn, allowedBy, most-carriers, most-risers, most-rules, most-pairs}
 use Rattle.ground.specs.Laws.Reading.{andThen-got, checked-passed, and-left, and-right, All, many-all}
-use Rattle.sheet.specs.Tables.{putAll, markLists, isListed, key, markPairs, RuleTables, putRule, markRules, isAllowed}
+use Rattle.fields.specs.Tables.{putAll, markLists, isListed, key, markPairs, RuleTables, putRule, markRules, isAllowed}
 use Rattle.sheet.specs.Serves.{bit}
-use Rattle.sheet.specs.Rules.{listed-small}
+use Rattle.fields.specs.Risers.{listed-small}
 
 pub at-blank : (n i : ℕ) → _≡_ {A = ℕ} (at (replicate n 0) i) 0
 at-blank zero i = refl

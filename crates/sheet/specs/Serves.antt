@@ -4,6 +4,8 @@
 --   Blank member allowed ends swaps         the four tables as they are before anything is read, and after a refusal
 --   Reads s p r member allowed ends swaps   r answers what the definition says of the sheet at place p of s, and the tables
 --                                           are those of the sheet, or blank where it is refused
+--   tellSheet o                             the answer for an outcome o of the whole sheet: its numbers of carriers, risers, rules
+--                                           and swaps, or number and place of the refusal
 --   bit b                                   1 for yes, 0 for no
 --   risersOf X q                            the two risers of rule q
 --
@@ -15,16 +17,19 @@ use mathlib.Core.List.{List, map, _++_}
 use Prim.Native.Nat.{ℕ, _+_, _*_, _-_, _<_}
 use lib.ListN.{length, getD, replicate}
 use Rattle.ground.specs.Meanings.Group.{at, identity}
-use Rattle.ground.specs.Meanings.Sheet.{got, refused, jobSheet, Sheet, Pair, noRule, listedIn, allowedBy, most-carriers, most-risers, most-rules, most-pairs, most-swaps}
+use Rattle.ground.specs.Meanings.Sheet.{Outcome, got, refused, jobSheet, Sheet, Pair, noRule, listedIn, allowedBy, most-carriers, most-risers, most-rules, most-pairs, most-swaps}
 use Rattle.sheet.specs.declared.Head.{Head}
-use Rattle.sheet.specs.Answers.{tellSheet}
-use Rattle.sheet.specs.Tables.{isListed, isAllowed, padded}
+use Rattle.fields.specs.Tables.{isListed, isAllowed, padded}
 
 abbrev pub bit : Bool → ℕ
 bit b = cond b 1 0
 
 abbrev pub risersOf : Sheet → ℕ → Pair
 risersOf X q = getD (X .rules) q noRule .risers
+
+abbrev pub tellSheet : Outcome Sheet → Head
+tellSheet (got X p) = Head.Accepted (X .carriers) (length (X .lists)) (length (X .rules)) (length (X .swaps))
+tellSheet (refused q p) = Head.Refused q p
 
 pub record Serves (X : Sheet) (member allowed ends : List ℕ) (swaps : List (List ℕ)) : Type 0 where
   -- as the code asks them

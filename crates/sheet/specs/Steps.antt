@@ -18,13 +18,13 @@ use lib.ListN.{length, replicate}
 use borrow.Author.Tests.{eqb-true, eqb-false, eq-eqb, ne-eqb}
 use Rattle.ground.specs.Meanings.Group.{identity}
 use Rattle.ground.specs.Meanings.Sheet.{refused, jobSheet, Sheet, Rule, count, riser, rule, swap, most-carriers, most-risers, most-rules, most-pairs, most-swaps}
-use Rattle.sheet.specs.declared.Number.{Number}
+use Rattle.fields.specs.declared.Number.{Number}
 use Rattle.sheet.specs.declared.Found.{Found}
 use Rattle.sheet.specs.declared.Head.{Head}
-use Rattle.sheet.specs.Tables.{markLists, isListed, isAllowed, ruleTables, markRules, putSwap, putAll}
-use Rattle.sheet.specs.Answers.{Answers, tellNumber, tellCount, tellSheet, answer-refused}
-use Rattle.sheet.specs.Sections.{section}
-use Rattle.sheet.specs.Serves.{Serves, Blank}
+use Rattle.fields.specs.Tables.{markLists, isListed, isAllowed, ruleTables, markRules, putSwap, putAll}
+use Rattle.fields.specs.Answers.{Answers, tellNumber, tellCount, answer-refused}
+use Rattle.sheet.specs.Serves.{Serves, Blank, tellSheet}
+use Rattle.fields.specs.Sections.{section}
 use Rattle.sheet.specs.Whole.{GotCarriers, GotRisers, GotRules, GotSwaps, no-carriers, carriers-got, no-risers, risers-got, no-rules, rules-got, no-swaps, swaps-got, all-read, more-bytes}
 
 unfoldable pub Reached : ℕ → List ℕ → ℕ → Found → List ℕ → List ℕ → List ℕ → List (List ℕ) → Type 0

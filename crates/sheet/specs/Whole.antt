@@ -16,13 +16,13 @@ use borrow.Author.Tests.{eq-eqb, ne-eqb}
 use Rattle.ground.specs.Meanings.Group.{identity}
 use Rattle.ground.specs.Meanings.Sheet.{Outcome, got, refused, andThen, many, count, riser, rule, Rule, swap, nothingMore, listedIn, allowedBy, Sheet, jobSheet, most-carriers, most-risers, most-rules, most-pairs, most-swaps}
 use Rattle.ground.specs.Laws.Reading.{All, andThen-got}
-use Rattle.sheet.specs.declared.Number.{Number}
+use Rattle.fields.specs.declared.Number.{Number}
 use Rattle.sheet.specs.declared.Head.{Head}
-use Rattle.sheet.specs.Tables.{markLists, isListed, isAllowed, RuleTables, ruleTables, markRules, padded, putSwap, putAll}
-use Rattle.sheet.specs.Answers.{Answers, tellNumber, tellCount, tellSheet, answer-got, number-got, number-refused, count-got, count-refused}
-use Rattle.sheet.specs.Risers.{count-most}
-use Rattle.sheet.specs.Sections.{section, section-then, section-most}
-use Rattle.sheet.specs.Serves.{Serves, Blank, Reads}
+use Rattle.fields.specs.Tables.{markLists, isListed, isAllowed, RuleTables, ruleTables, markRules, padded, putSwap, putAll}
+use Rattle.fields.specs.Answers.{Answers, tellNumber, tellCount, answer-got, number-got, number-refused, count-got, count-refused}
+use Rattle.sheet.specs.Serves.{Serves, Blank, Reads, tellSheet}
+use Rattle.fields.specs.Fields.{count-most}
+use Rattle.fields.specs.Sections.{section, section-then, section-most}
 use Rattle.sheet.specs.Entries.{Carriers, CarrierPairs, listed-entry, listed-is, allowed-entry, allows-is, lists-small, rules-small}
 use Rattle.sheet.specs.Ends.{Ascends, rules-ascend, ends-found, ends-of-rule}
 

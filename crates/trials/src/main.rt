@@ -17,7 +17,7 @@ ghost use Prim.Native.Nat.{_≤_};
 use folding::fold;
 use ground::LONGEST;
 use listing::list;
-use text::print_line;
+use text::end_line;
 use text::put;
 use text::put_number;
 
@@ -155,7 +155,7 @@ fn print_listing(sheet: &[u8], allowance: u64, bytes: &mut [u8], sizes: &mut [u6
     at = put_next(&mut line, at, answer.total);
     at = put_bytes(&mut line, at, bytes);
     at = put_sizes(&mut line, at, sizes);
-    print_line(&mut line, at);
+    end_line(&mut line, at, LINE);
 }
 
 // Folds the row, and prints the answer with the first buffer as it is then.
@@ -167,7 +167,7 @@ fn print_folding(sheet: &[u8], row: &[u8], first: &mut [u8], member: &mut [u8]) 
     at = put_next(&mut line, at, answer.size);
     at = put_bytes(&mut line, at, first);
     at = put_member(&mut line, at, member, row, answer.number);
-    print_line(&mut line, at);
+    end_line(&mut line, at, LINE);
 }
 
 // A byte as an index.

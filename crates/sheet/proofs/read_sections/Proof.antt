@@ -39,8 +39,8 @@ use denote.Triple.Table.{entered, cited}
 use denote.Triple.Walked.{says, needs, Stays, stay-none-slice, walkOf, goes-none-slice, Walks, ends-at, walked, walk-meets}
 use denote.Exit.{yes}
 use Rattle.ground.specs.Meanings.Sheet.{Sheet, jobSheet}
-use Rattle.sheet.specs.Answers.{Answers, tellSheet}
-use Rattle.sheet.specs.Serves.{Serves, Blank}
+use Rattle.fields.specs.Answers.{Answers}
+use Rattle.sheet.specs.Serves.{Serves, Blank, tellSheet}
 use Rattle.sheet.specs.Steps.{reached-nothing}
 use Rattle.sheet.specs.declared.Found.{Found}
 use Rattle.sheet.specs.declared.Reader.{Reader}

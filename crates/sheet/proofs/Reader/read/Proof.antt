@@ -36,8 +36,8 @@ use denote.Triple.Table.{entered, cited}
 use denote.Triple.Walked.{says, needs, Stays, stay-dropped, walkOf, goes-dropped, Walks, ends-at, walked, walk-meets}
 use denote.Exit.{yes}
 use Rattle.ground.specs.Meanings.Sheet.{Sheet, jobSheet}
-use Rattle.sheet.specs.Answers.{Answers, tellSheet}
-use Rattle.sheet.specs.Serves.{Serves}
+use Rattle.fields.specs.Answers.{Answers}
+use Rattle.sheet.specs.Serves.{Serves, tellSheet}
 use Rattle.sheet.specs.Steps.{Reached, Goes, wholeAt, reached-whole}
 use Rattle.sheet.specs.declared.Found.{Found}
 use Rattle.sheet.specs.declared.Reader.{Reader}

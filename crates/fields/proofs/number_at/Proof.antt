@@ -1,0 +1,33 @@
+-- `number_at` answers what the definition says of a byte in bounds. Each return is one case of the test, and the byte is the slice's own.
+-- Assumes nothing.
+use borrow.Author.Needs.{needs}
+use native.Mathlib.Omega.{arith}
+use Rattle.fields.specs.Fields.{number-short, number-low, number-high, number-is}
+use Rattle.fields.proofs.number_at.Statement.{statement}
+use Rattle.fields.proofs.number_at.Tie as tie
+
+returns : tie.Need-returns
+returns c = number-short _ _ _ _ _ (c .if1 .taken)
+
+shared-slice-read-value : tie.Need-shared-slice-read-value
+shared-slice-read-value c = search needs
+
+cast-value : tie.Need-cast-value
+cast-value c = omega (arith, c .shared-slice-known .given (c .before .before .args .at))
+
+returns-2 : tie.Need-returns-2
+returns-2 c = number-low _ _ _ _ _ (c .before .before .if1 .left) (c .if2 .taken)
+
+returns-3 : tie.Need-returns-3
+returns-3 c = number-high _ _ _ _ _ (c .before .before .before .if1 .left) (c .before .if2 .left) (c .if3 .taken)
+
+add-next : tie.Need-add-next
+add-next c = search needs
+
+returns-4 : tie.Need-returns-4
+returns-4 c = number-is _ _ _ _ _ (c .before .before .before .if1 .left) (c .before .if2 .left) (c .if3 .left)
+
+pub number-at-spec : {M : Type 1} → statement M
+number-at-spec =
+    tie.close
+    (tie.spec returns shared-slice-read-value cast-value returns-2 returns-3 add-next returns-4)

@@ -1,0 +1,49 @@
+-- `two_at` answers what the definition says of two bytes that are one field. Where either is missing the field is refused at its first byte.
+-- Assumes nothing.
+use borrow.Author.Needs.{needs}
+use Prim.Native.Nat.{_+_}
+use native.Mathlib.Omega.{arith}
+use Rattle.fields.specs.Fields.{two-short, two-is}
+use Rattle.fields.proofs.two_at.Statement.{statement}
+use Rattle.fields.proofs.two_at.Tie as tie
+
+returns : tie.Need-returns
+returns c = two-short _ _ (omega arith)
+
+add-second : tie.Need-add-second
+add-second c = search needs
+
+shared-slice-read-left : tie.Need-shared-slice-read-left
+shared-slice-read-left c = search needs
+
+cast-left : tie.Need-cast-left
+cast-left c = omega (arith, c .shared-slice-known .given (c .before .before .before .args .at))
+
+shared-slice-read-right : tie.Need-shared-slice-read-right
+shared-slice-read-right c = search needs
+
+cast-right : tie.Need-cast-right
+cast-right c = omega (arith, c .shared-slice-known2 .given (c .before .before .before .before .args .at + 1))
+
+add-next : tie.Need-add-next
+add-next c = search needs
+
+returns-2 : tie.Need-returns-2
+returns-2 c = two-short _ _ (c .if2 .taken)
+
+returns-3 : tie.Need-returns-3
+returns-3 c = two-is _ _ (c .before .before .if2 .left)
+
+pub two-at-spec : {M : Type 1} → statement M
+two-at-spec =
+    tie.close
+    (tie.spec
+    returns
+    add-second
+    shared-slice-read-left
+    cast-left
+    shared-slice-read-right
+    cast-right
+    add-next
+    returns-2
+    returns-3)
