@@ -77,36 +77,36 @@ settled room s =
 same-filled : (x : ℕ) (a b : List ℕ) → length a ≡ length b → filled x a ≡ filled x b
 same-filled x a b e = ap (λ (j : ℕ). replicate j x) e
 
-settles-on : (X : Sheet) (allowance : ℕ) (rows sizes : List ℕ) (s : State) (j : ℕ) → j ≡ room (risers X) rows sizes → Answer X j allowance rows sizes s → length (s .rows) ≡ length rows → length (s .sizes) ≡ length sizes
-    → ListsOn X allowance rows sizes (settled j s)
-settles-on X allowance rows sizes s j ej A er ez = go (decLt allowance (A .opened)) (decLt j (length (A .lines)))
+settles-on : (X : Sheet) (z : Limits) (rows sizes : List ℕ) (s : State) → z .room ≡ room (risers X) rows sizes → Answer X z rows sizes s → length (s .rows) ≡ length rows → length (s .sizes) ≡ length sizes
+    → ListsOn X (z .allowance) rows sizes (settled (z .room) s)
+settles-on X z rows sizes s ej A er ez = go (decLt (z .allowance) (A .opened)) (decLt (z .room) (length (A .lines)))
   where
-    go : Dec (allowance < A .opened) → Dec (j < length (A .lines)) → ListsOn X allowance rows sizes (settled j s)
+    go : Dec (z .allowance < A .opened) → Dec (z .room < length (A .lines)) → ListsOn X (z .allowance) rows sizes (settled (z .room) s)
     go (yes l) d =
         let b = A .beyond l in
-        let e : settled j s ≡ left 10 0 0 allowance 0 (filled 255 rows) (filled 0 sizes) =
-        ap (λ (v : Bool). cond v (left 10 0 0 (s .opened) 0 (filled 255 (s .rows)) (filled 0 (s .sizes))) (cond (ltb j (s .listed)) (left 11 0 (s .listed) (s .opened) (s .total) (filled 255 (s .rows)) (filled 0 (s .sizes))) (left 0 0 (s .listed) (s .opened) (s .total) (s .rows) (s .sizes)))) (b .0)
+        let e : settled (z .room) s ≡ left 10 0 0 (z .allowance) 0 (filled 255 rows) (filled 0 sizes) =
+        ap (λ (v : Bool). cond v (left 10 0 0 (s .opened) 0 (filled 255 (s .rows)) (filled 0 (s .sizes))) (cond (ltb (z .room) (s .listed)) (left 11 0 (s .listed) (s .opened) (s .total) (filled 255 (s .rows)) (filled 0 (s .sizes))) (left 0 0 (s .listed) (s .opened) (s .total) (s .rows) (s .sizes)))) (b .0)
         ∙ (λ i. left 10 0 0 (b .1 i) 0 (same-filled 255 (s .rows) rows er i) (same-filled 0 (s .sizes) sizes ez i)) in
-        subst (ListsOn X allowance rows sizes) (sym e) (beyond-allowance (A .opens) l)
+        subst (ListsOn X (z .allowance) rows sizes) (sym e) (beyond-allowance (A .opens) l)
     go (no f) (yes m) =
         let w = A .within (omega arith) in
-        let R = over (flat (rowsOf (take j (A .lines)))) rows in
-        let Q = over (sizesOf (take j (A .lines))) sizes in
+        let R = over (flat (rowsOf (take (z .room) (A .lines)))) rows in
+        let Q = over (sizesOf (take (z .room) (A .lines))) sizes in
         let x : length R ≡ length rows = ap (λ (v : State). length (v .rows)) (sym w) ∙ er in
         let y : length Q ≡ length sizes = ap (λ (v : State). length (v .sizes)) (sym w) ∙ ez in
-        let e : settled j s ≡ left 11 0 (length (A .lines)) (A .opened) (A .total) (filled 255 rows) (filled 0 sizes) =
-        ap (settled j) w
-        ∙ ap (λ (v : Bool). cond v (left 11 0 (length (A .lines)) (A .opened) (A .total) (filled 255 R) (filled 0 Q)) (left 0 0 (length (A .lines)) (A .opened) (A .total) R Q)) (lt-ltb j (length (A .lines)) m)
+        let e : settled (z .room) s ≡ left 11 0 (length (A .lines)) (A .opened) (A .total) (filled 255 rows) (filled 0 sizes) =
+        ap (settled (z .room)) w
+        ∙ ap (λ (v : Bool). cond v (left 11 0 (length (A .lines)) (A .opened) (A .total) (filled 255 R) (filled 0 Q)) (left 0 0 (length (A .lines)) (A .opened) (A .total) R Q)) (lt-ltb (z .room) (length (A .lines)) m)
         ∙ (λ i. left 11 0 (length (A .lines)) (A .opened) (A .total) (same-filled 255 R rows x i) (same-filled 0 Q sizes y i)) in
-        subst (ListsOn X allowance rows sizes) (sym e) (beyond-room (A .opens) (omega arith) (A .plans) (A .lists) (omega arith))
+        subst (ListsOn X (z .allowance) rows sizes) (sym e) (beyond-room (A .opens) (omega arith) (A .plans) (A .lists) (omega arith))
     go (no f) (no g) =
         let w = A .within (omega arith) in
-        let t : take j (A .lines) ≡ A .lines = take-all j (A .lines) (omega arith) in
-        let e : settled j s ≡ left 0 0 (length (A .lines)) (A .opened) (A .total) (over (flat (rowsOf (A .lines))) rows) (over (sizesOf (A .lines)) sizes) =
-        ap (settled j) w
-        ∙ ap (λ (v : Bool). cond v (left 11 0 (length (A .lines)) (A .opened) (A .total) (filled 255 (over (flat (rowsOf (take j (A .lines)))) rows)) (filled 0 (over (sizesOf (take j (A .lines))) sizes))) (left 0 0 (length (A .lines)) (A .opened) (A .total) (over (flat (rowsOf (take j (A .lines)))) rows) (over (sizesOf (take j (A .lines))) sizes))) (le-ltb j (length (A .lines)) (omega arith))
+        let t : take (z .room) (A .lines) ≡ A .lines = take-all (z .room) (A .lines) (omega arith) in
+        let e : settled (z .room) s ≡ left 0 0 (length (A .lines)) (A .opened) (A .total) (over (flat (rowsOf (A .lines))) rows) (over (sizesOf (A .lines)) sizes) =
+        ap (settled (z .room)) w
+        ∙ ap (λ (v : Bool). cond v (left 11 0 (length (A .lines)) (A .opened) (A .total) (filled 255 (over (flat (rowsOf (take (z .room) (A .lines)))) rows)) (filled 0 (over (sizesOf (take (z .room) (A .lines))) sizes))) (left 0 0 (length (A .lines)) (A .opened) (A .total) (over (flat (rowsOf (take (z .room) (A .lines)))) rows) (over (sizesOf (take (z .room) (A .lines))) sizes))) (le-ltb (z .room) (length (A .lines)) (omega arith))
         ∙ ap (λ (F : List Line). left 0 0 (length (A .lines)) (A .opened) (A .total) (over (flat (rowsOf F)) rows) (over (sizesOf F) sizes)) t in
-        subst (ListsOn X allowance rows sizes) (sym e) (listed (A .opens) (omega arith) (A .plans) (A .lists) (omega arith))
+        subst (ListsOn X (z .allowance) rows sizes) (sym e) (listed (A .opens) (omega arith) (A .plans) (A .lists) (omega arith))
 
 pub settles : (s : List ℕ) (z : Limits) {k n m : ℕ} {member allowed ends : List ℕ} {swaps : List (List ℕ)} (rows sizes : List ℕ) (v : State) (o : Left) → Given s k n m member allowed ends swaps → z .carriers ≡ k → z .risers ≡ n → z .room ≡ min (length rows / n) (length sizes)
     → Searches z m (tables member allowed ends) swaps rows sizes v → length (v .rows) ≡ length rows → length (v .sizes) ≡ length sizes → o ≡ settled (z .room) v → Lists s (z .allowance) rows sizes o
@@ -114,7 +114,7 @@ unfolding room
 settles s z {k} {n} {m} {member} {allowed} {ends} {swaps} rows sizes v o G ek en er S lr lz e =
     let X = G .sheet in
     let q : z .room ≡ min (length rows / risers X) (length sizes) = er ∙ ap (λ (j : ℕ). min (length rows / j) (length sizes)) (sym (G .serves .risers)) in
-    Lists.sheet (G .accepted) (subst (ListsOn X (z .allowance) rows sizes) (sym e) (settles-on X (z .allowance) rows sizes v (z .room) q (S .answers X (served G z ek en)) lr lz))
+    Lists.sheet (G .accepted) (subst (ListsOn X (z .allowance) rows sizes) (sym e) (settles-on X z rows sizes v q (S .answers X (served G z ek en)) lr lz))
 
 -- ---- the three answers
 
