@@ -1,5 +1,7 @@
+-- The search: what it visits and promises, and the laws of it.
 pub mod Visits
 pub mod Weights
+pub mod Walks
 pub mod Search
 pub mod Runs
 pub mod Budgets
@@ -8,9 +10,9 @@ pub mod Fitting
 pub mod OnSheet
 pub mod Joins
 pub mod Openings
+pub mod Wholes
 pub mod Written
 pub mod Answer
-pub mod Answering
 pub mod Finishing
 pub mod Trying
 pub mod Starting

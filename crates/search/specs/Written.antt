@@ -1,6 +1,5 @@
 -- What a run leaves: all visits counted and the plans written as far as there is room; or a stop at the allowance.
 --
---   wholes n vs          the visits that have all n risers: the plans
 --   AllWhole n F         each row of F has n carriers
 --   written, noted       the lent rows and sizes after the plans F are listed, l having been listed before
 --
@@ -22,12 +21,9 @@ use Rattle.ground.specs.Meanings.Exactly.{_∈_}
 use Rattle.ground.specs.Meanings.Listing.{Line, rowsOf, sizesOf, flat, over}
 use Rattle.ground.specs.Laws.Classes.{total}
 use Rattle.search.specs.declared.Limits.{Limits}
-use Rattle.search.specs.Visits.{State, state, listing, opening, run}
+use Rattle.search.specs.Visits.{State, state, empty, listing, opening, run}
 use Rattle.search.specs.Runs.{run-none, run-first, run-stop}
-
-abbrev pub wholes : ℕ → List Line → List Line
-wholes n [] = []
-wholes n (v ∷ vs) = cond (eqb (length (v .row)) n) (v ∷ wholes n vs) (wholes n vs)
+use Rattle.search.specs.Wholes.{wholes, wholes-mem}
 
 abbrev pub written : ℕ → ℕ → List Line → ℕ → List ℕ → List ℕ
 written n room [] l rows = rows
@@ -53,12 +49,12 @@ module _ (z : Limits) where
   Ended vs F o l t rows sizes = state (o + length vs) (l + length F) (t + total (sizesOf F)) false (written n room F l rows) (noted room F l sizes)
 
   -- the allowance is enough
-  pub run-all : (vs : List Line) (o l t : ℕ) (rows sizes : List ℕ) → o + length vs ≤ z .allowance
+  run-all-from : (vs : List Line) (o l t : ℕ) (rows sizes : List ℕ) → o + length vs ≤ z .allowance
       → run z vs (state o l t false rows sizes) ≡ state (o + length vs) (l + length (wholes n vs)) (t + total (sizesOf (wholes n vs))) false (written n room (wholes n vs) l rows) (noted room (wholes n vs) l sizes)
-  run-all [] o l t rows sizes h =
+  run-all-from [] o l t rows sizes h =
       run-none z (state o l t false rows sizes) ∙ same-state o (o + 0) l (l + 0) t (t + 0) false rows sizes (omega arith) (omega arith) (omega arith)
-  run-all (v ∷ vs) o l t rows sizes h =
-      run-first z v vs (state o l t false rows sizes) refl (omega arith) ∙ go (eqb (length (v .row)) n) (λ l t rows sizes. run-all vs (o + 1) l t rows sizes (omega arith))
+  run-all-from (v ∷ vs) o l t rows sizes h =
+      run-first z v vs (state o l t false rows sizes) refl (omega arith) ∙ go (eqb (length (v .row)) n) (λ l t rows sizes. run-all-from vs (o + 1) l t rows sizes (omega arith))
     where
       go : (b : Bool)
           → ((l t : ℕ) (rows sizes : List ℕ) → run z vs (state (o + 1) l t false rows sizes) ≡ Ended vs (wholes n vs) (o + 1) l t rows sizes)
@@ -71,10 +67,10 @@ module _ (z : Limits) where
           ∙ same-state (o + 1 + length vs) (o + length (v ∷ vs)) (l + length (wholes n vs)) (l + length (wholes n vs)) (t + total (sizesOf (wholes n vs))) (t + total (sizesOf (wholes n vs))) false (written n room (wholes n vs) l rows) (noted room (wholes n vs) l sizes) (omega arith) refl refl
 
   -- it is not
-  pub run-many : (vs : List Line) (o l t : ℕ) (rows sizes : List ℕ) → o ≤ z .allowance → z .allowance < o + length vs
+  run-many-from : (vs : List Line) (o l t : ℕ) (rows sizes : List ℕ) → o ≤ z .allowance → z .allowance < o + length vs
       → ((run z vs (state o l t false rows sizes)) .over ≡ true) × ((run z vs (state o l t false rows sizes)) .opened ≡ z .allowance)
-  run-many [] o l t rows sizes le lt = absurd (omega arith)
-  run-many (v ∷ vs) o l t rows sizes le lt = go (decLt o (z .allowance)) (λ l t rows sizes h. run-many vs (o + 1) l t rows sizes h (omega arith))
+  run-many-from [] o l t rows sizes le lt = absurd (omega arith)
+  run-many-from (v ∷ vs) o l t rows sizes le lt = go (decLt o (z .allowance)) (λ l t rows sizes h. run-many-from vs (o + 1) l t rows sizes h (omega arith))
     where
       Stopped : State → Type 0
       Stopped s = (s .over ≡ true) × (s .opened ≡ z .allowance)
@@ -194,7 +190,7 @@ take-mem zero l x m = absurd (List·Memᴰ·not-nil m)
 take-mem (suc j) [] x m = m
 take-mem (suc j) (y ∷ l) x m = elim (List·Memᴰ·cases-cons m) [ inl e ↦ List·Memᴰ·head e | inr t ↦ List·Memᴰ·tail (take-mem j l x t) ]
 
-pub written-is : (n room : ℕ) (F : List Line) (rows : List ℕ) → AllWhole n F → room * n ≤ length rows → written n room F 0 rows ≡ over (flat (rowsOf (take room F))) rows
+written-is : (n room : ℕ) (F : List Line) (rows : List ℕ) → AllWhole n F → room * n ≤ length rows → written n room F 0 rows ≡ over (flat (rowsOf (take room F))) rows
 written-is n room F rows long fits =
     let e : room - 0 ≡ room = omega arith in
     let z : 0 * n ≡ 0 = omega arith in
@@ -207,7 +203,7 @@ written-is n room F rows long fits =
     zero-plus : (x : ℕ) → 0 + x ≡ x
     zero-plus x = omega arith
 
-pub noted-is : (room : ℕ) (F : List Line) (sizes : List ℕ) → room ≤ length sizes → noted room F 0 sizes ≡ over (sizesOf (take room F)) sizes
+noted-is : (room : ℕ) (F : List Line) (sizes : List ℕ) → room ≤ length sizes → noted room F 0 sizes ≡ over (sizesOf (take room F)) sizes
 noted-is room F sizes fits =
     let e : room - 0 ≡ room = omega arith in
     let f : 0 + length (take room F) ≡ length (sizesOf (take room F)) = zero-plus (length (take room F)) ∙ sym (length-map (take room F) (λ (l : Line). l .size)) in
@@ -217,3 +213,19 @@ noted-is room F sizes fits =
   where
     zero-plus : (x : ℕ) → 0 + x ≡ x
     zero-plus x = omega arith
+
+-- ---- a run of all visits from the start, in the words of the listing
+
+module _ (z : Limits) (vs : List Line) (rows sizes : List ℕ) where
+  abbrev plans : List Line
+  plans = wholes (z .risers) vs
+
+  pub run-all : z .room * z .risers ≤ length rows → z .room ≤ length sizes → length vs ≤ z .allowance
+      → run z vs (empty rows sizes) ≡ state (length vs) (length plans) (total (sizesOf plans)) false (over (flat (rowsOf (take (z .room) plans))) rows) (over (sizesOf (take (z .room) plans)) sizes)
+  run-all fr fz le =
+      run-all-from z vs 0 0 0 rows sizes (omega arith)
+      ∙ ap₂ (λ (x y : List ℕ). state (0 + length vs) (0 + length plans) (0 + total (sizesOf plans)) false x y) (written-is (z .risers) (z .room) plans rows (λ v i. wholes-mem (z .risers) vs v i .1) fr) (noted-is (z .room) plans sizes fz)
+      ∙ same-state (0 + length vs) (length vs) (0 + length plans) (length plans) (0 + total (sizesOf plans)) (total (sizesOf plans)) false (over (flat (rowsOf (take (z .room) plans))) rows) (over (sizesOf (take (z .room) plans)) sizes) (omega arith) (omega arith) (omega arith)
+
+  pub run-many : z .allowance < length vs → (run z vs (empty rows sizes) .over ≡ true) × (run z vs (empty rows sizes) .opened ≡ z .allowance)
+  run-many lt = run-many-from z vs 0 0 0 rows sizes (omega arith) (omega arith)
