@@ -26,11 +26,11 @@ use Rattle.ground.specs.Theorems.Kinds.{sizes-sum}
 use Rattle.sheet.specs.declared.Head.{Head}
 use Rattle.sheet.specs.Serves as reader
 use Rattle.sheet.specs.Callers.{accepted-as, refused-as, sheet-sound, swaps-table}
-use Rattle.search.specs.declared.Limits.{Limits}
-use Rattle.search.specs.Visits.{State, state}
-use Rattle.search.specs.Walks.{Every}
-use Rattle.search.specs.Wholes.{wholes, walk-opened, walk-lists}
-use Rattle.search.specs.Written.{run-all, run-many}
+use Rattle.tree.specs.declared.Limits.{Limits}
+use Rattle.tree.specs.Visits.{State, state}
+use Rattle.tree.specs.Walks.{Every}
+use Rattle.tree.specs.Wholes.{wholes, walk-opened, walk-lists}
+use Rattle.tree.specs.Written.{run-all, run-many}
 use Rattle.rules.specs.Tables.{Tables, tables, Serves}
 use Rattle.search.specs.Answer.{Ready, Searched, Searches}
 use Rattle.search.specs.Starting.{serves-ready}

@@ -20,10 +20,10 @@ use lib.Seq.{paste, length-paste, take-paste, drop-paste, take-all, take-nil, ta
 use Rattle.ground.specs.Meanings.Exactly.{_∈_}
 use Rattle.ground.specs.Meanings.Listing.{Line, rowsOf, sizesOf, flat, over}
 use Rattle.ground.specs.Laws.Classes.{total}
-use Rattle.search.specs.declared.Limits.{Limits}
-use Rattle.search.specs.Visits.{State, state, empty, listing, opening, run}
-use Rattle.search.specs.Runs.{run-none, run-first, run-stop}
-use Rattle.search.specs.Wholes.{wholes, wholes-mem}
+use Rattle.tree.specs.declared.Limits.{Limits}
+use Rattle.tree.specs.Visits.{State, state, empty, listing, opening, run}
+use Rattle.tree.specs.Runs.{run-none, run-first, run-stop}
+use Rattle.tree.specs.Wholes.{wholes, wholes-mem}
 
 abbrev pub written : ℕ → ℕ → List Line → ℕ → List ℕ → List ℕ
 written n room [] l rows = rows
