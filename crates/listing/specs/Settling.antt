@@ -4,7 +4,8 @@
 --   settled room s       what is left, from the state s of the search: filled over where the allowance or the room was not enough
 --
 -- Where the reader accepts, the tables are given (`given`), the search may start (`ready`), and what is settled fits the meanings
--- (`settles`); where the reader refuses, so does the listing (`refuses`).
+-- (`settles`): a walk that the allowance is enough for leaves the true numbers and the listing's first lines (`run-all`), another one a
+-- stop (`run-many`). Where the reader refuses, so does the listing (`refuses`).
 -- Assumes nothing.
 use mathlib.Core.Path.{_≡_, sym, ap, subst, _∙_}
 use mathlib.Core.Bool.{Bool, true, false, cond}
@@ -19,15 +20,20 @@ use lib.ListN.{length, take, replicate}
 use lib.Seq.{take-all}
 use Rattle.ground.specs.Meanings.Sheet.{Sheet, Accepted, Refused, most-swaps}
 use Rattle.ground.specs.Meanings.Plans.{risers}
-use Rattle.ground.specs.Meanings.Listing.{Line, room, filled, over, flat, rowsOf, sizesOf, Left, left, ListsOn, beyond-allowance, beyond-room, listed, Lists}
+use Rattle.ground.specs.Meanings.Listing.{Line, onSheet, Listing, room, filled, over, flat, rowsOf, sizesOf, Left, left, ListsOn, beyond-allowance, beyond-room, listed, Lists}
+use Rattle.ground.specs.Laws.Classes.{total}
+use Rattle.ground.specs.Theorems.Kinds.{plan-kinds, sizes-sum}
 use Rattle.sheet.specs.declared.Head.{Head}
 use Rattle.sheet.specs.Serves as reader
 use Rattle.sheet.specs.Callers.{accepted-as, refused-as, sheet-sound, swaps-table}
-use Rattle.search.specs.declared.Limits.{Limits}
-use Rattle.search.specs.Visits.{State}
-use Rattle.rules.specs.Tables.{tables, Serves}
-use Rattle.search.specs.Answer.{Ready, Answer, Searches}
-use Rattle.search.specs.Answering.{serves-ready}
+use Rattle.tree.specs.declared.Limits.{Limits}
+use Rattle.tree.specs.Visits.{State, state}
+use Rattle.tree.specs.Walks.{Every}
+use Rattle.tree.specs.Wholes.{wholes, walk-opened, walk-lists}
+use Rattle.tree.specs.Written.{run-all, run-many}
+use Rattle.rules.specs.Tables.{Tables, tables, Serves}
+use Rattle.search.specs.Answer.{Ready, Searched, Searches}
+use Rattle.search.specs.Starting.{serves-ready}
 use Rattle.listing.specs.Serving.{serves}
 
 -- ---- from the reader to the search
@@ -64,7 +70,7 @@ module _ {s : List ℕ} {k n m : ℕ} {member allowed ends : List ℕ} {swaps : 
       let low : z .room ≤ length rows / n = omega arith in
       serves-ready rows sizes (served z ek en) (G .eight) (le-trans (subst (λ (j : ℕ). z .room * j ≤ length rows / n * n) (sym en) (mul-le-mul-right n low)) (div-mul-le-self (length rows) n)) (omega arith)
 
--- ---- from the search to the answer
+-- ---- what is left, from the state of the search
 
 abbrev pub settled : ℕ → State → Left
 settled room s =
@@ -73,50 +79,6 @@ settled room s =
     (cond (ltb room (s .listed))
     (left 11 0 (s .listed) (s .opened) (s .total) (filled 255 (s .rows)) (filled 0 (s .sizes)))
     (left 0 0 (s .listed) (s .opened) (s .total) (s .rows) (s .sizes)))
-
-same-filled : (x : ℕ) (a b : List ℕ) → length a ≡ length b → filled x a ≡ filled x b
-same-filled x a b e = ap (λ (j : ℕ). replicate j x) e
-
-settles-on : (X : Sheet) (allowance : ℕ) (rows sizes : List ℕ) (s : State) (j : ℕ) → j ≡ room (risers X) rows sizes → Answer X j allowance rows sizes s → length (s .rows) ≡ length rows → length (s .sizes) ≡ length sizes
-    → ListsOn X allowance rows sizes (settled j s)
-settles-on X allowance rows sizes s j ej A er ez = go (decLt allowance (A .opened)) (decLt j (length (A .lines)))
-  where
-    go : Dec (allowance < A .opened) → Dec (j < length (A .lines)) → ListsOn X allowance rows sizes (settled j s)
-    go (yes l) d =
-        let b = A .beyond l in
-        let e : settled j s ≡ left 10 0 0 allowance 0 (filled 255 rows) (filled 0 sizes) =
-        ap (λ (v : Bool). cond v (left 10 0 0 (s .opened) 0 (filled 255 (s .rows)) (filled 0 (s .sizes))) (cond (ltb j (s .listed)) (left 11 0 (s .listed) (s .opened) (s .total) (filled 255 (s .rows)) (filled 0 (s .sizes))) (left 0 0 (s .listed) (s .opened) (s .total) (s .rows) (s .sizes)))) (b .0)
-        ∙ (λ i. left 10 0 0 (b .1 i) 0 (same-filled 255 (s .rows) rows er i) (same-filled 0 (s .sizes) sizes ez i)) in
-        subst (ListsOn X allowance rows sizes) (sym e) (beyond-allowance (A .opens) l)
-    go (no f) (yes m) =
-        let w = A .within (omega arith) in
-        let R = over (flat (rowsOf (take j (A .lines)))) rows in
-        let Q = over (sizesOf (take j (A .lines))) sizes in
-        let x : length R ≡ length rows = ap (λ (v : State). length (v .rows)) (sym w) ∙ er in
-        let y : length Q ≡ length sizes = ap (λ (v : State). length (v .sizes)) (sym w) ∙ ez in
-        let e : settled j s ≡ left 11 0 (length (A .lines)) (A .opened) (A .total) (filled 255 rows) (filled 0 sizes) =
-        ap (settled j) w
-        ∙ ap (λ (v : Bool). cond v (left 11 0 (length (A .lines)) (A .opened) (A .total) (filled 255 R) (filled 0 Q)) (left 0 0 (length (A .lines)) (A .opened) (A .total) R Q)) (lt-ltb j (length (A .lines)) m)
-        ∙ (λ i. left 11 0 (length (A .lines)) (A .opened) (A .total) (same-filled 255 R rows x i) (same-filled 0 Q sizes y i)) in
-        subst (ListsOn X allowance rows sizes) (sym e) (beyond-room (A .opens) (omega arith) (A .plans) (A .lists) (omega arith))
-    go (no f) (no g) =
-        let w = A .within (omega arith) in
-        let t : take j (A .lines) ≡ A .lines = take-all j (A .lines) (omega arith) in
-        let e : settled j s ≡ left 0 0 (length (A .lines)) (A .opened) (A .total) (over (flat (rowsOf (A .lines))) rows) (over (sizesOf (A .lines)) sizes) =
-        ap (settled j) w
-        ∙ ap (λ (v : Bool). cond v (left 11 0 (length (A .lines)) (A .opened) (A .total) (filled 255 (over (flat (rowsOf (take j (A .lines)))) rows)) (filled 0 (over (sizesOf (take j (A .lines))) sizes))) (left 0 0 (length (A .lines)) (A .opened) (A .total) (over (flat (rowsOf (take j (A .lines)))) rows) (over (sizesOf (take j (A .lines))) sizes))) (le-ltb j (length (A .lines)) (omega arith))
-        ∙ ap (λ (F : List Line). left 0 0 (length (A .lines)) (A .opened) (A .total) (over (flat (rowsOf F)) rows) (over (sizesOf F) sizes)) t in
-        subst (ListsOn X allowance rows sizes) (sym e) (listed (A .opens) (omega arith) (A .plans) (A .lists) (omega arith))
-
-pub settles : (s : List ℕ) (z : Limits) {k n m : ℕ} {member allowed ends : List ℕ} {swaps : List (List ℕ)} (rows sizes : List ℕ) (v : State) (o : Left) → Given s k n m member allowed ends swaps → z .carriers ≡ k → z .risers ≡ n → z .room ≡ min (length rows / n) (length sizes)
-    → Searches z m (tables member allowed ends) swaps rows sizes v → length (v .rows) ≡ length rows → length (v .sizes) ≡ length sizes → o ≡ settled (z .room) v → Lists s (z .allowance) rows sizes o
-unfolding room
-settles s z {k} {n} {m} {member} {allowed} {ends} {swaps} rows sizes v o G ek en er S lr lz e =
-    let X = G .sheet in
-    let q : z .room ≡ min (length rows / risers X) (length sizes) = er ∙ ap (λ (j : ℕ). min (length rows / j) (length sizes)) (sym (G .serves .risers)) in
-    Lists.sheet (G .accepted) (subst (ListsOn X (z .allowance) rows sizes) (sym e) (settles-on X (z .allowance) rows sizes v (z .room) q (S .answers X (served G z ek en)) lr lz))
-
--- ---- the three answers
 
 module _ (room : ℕ) (s : State) where
   pub settled-over : {bytes sizes : List ℕ} → s .over ≡ true → bytes ≡ filled 255 (s .rows) → sizes ≡ filled 0 (s .sizes) → left 10 0 0 (s .opened) 0 bytes sizes ≡ settled room s
@@ -135,3 +97,56 @@ module _ (room : ℕ) (s : State) where
 
     pub settled-fits : s .listed ≤ room → left 0 0 (s .listed) (s .opened) (s .total) (s .rows) (s .sizes) ≡ settled room s
     settled-fits l = sym (going ∙ ap (λ (v : Bool). cond v (left 11 0 (s .listed) (s .opened) (s .total) (filled 255 (s .rows)) (filled 0 (s .sizes))) (left 0 0 (s .listed) (s .opened) (s .total) (s .rows) (s .sizes))) (le-ltb room (s .listed) l))
+
+-- ---- from the search to the answer
+
+same-filled : (x : ℕ) (a b : List ℕ) → length a ≡ length b → filled x a ≡ filled x b
+same-filled x a b e = ap (λ (j : ℕ). replicate j x) e
+
+module _ {X : Sheet} {z : Limits} {m : ℕ} {T : Tables} {swaps : List (List ℕ)} {rows sizes : List ℕ} {s : State} (Y : Serves X (z .carriers) (z .risers) m T swaps) (R : Ready z m T swaps rows sizes) (A : Searched z X Every rows sizes s) where
+  -- the plans among the rows that are opened
+  abbrev lines : List Line
+  lines = wholes (z .risers) (A .visits)
+
+  lists : Listing (onSheet X) lines
+  lists = walk-lists (Y .risers) (λ r o e. tt) (A .walk)
+
+  settles-on : z .room ≡ room (risers X) rows sizes → length (s .rows) ≡ length rows → length (s .sizes) ≡ length sizes → ListsOn (onSheet X) (z .allowance) rows sizes (settled (z .room) s)
+  settles-on ej er ez = go (decLt (z .allowance) (length (A .visits))) (decLt (z .room) (length lines))
+    where
+      bytes-filled : filled 255 rows ≡ filled 255 (s .rows)
+      bytes-filled = same-filled 255 rows (s .rows) (sym er)
+
+      sizes-filled : filled 0 sizes ≡ filled 0 (s .sizes)
+      sizes-filled = same-filled 0 sizes (s .sizes) (sym ez)
+
+      go : Dec (z .allowance < length (A .visits)) → Dec (z .room < length lines) → ListsOn (onSheet X) (z .allowance) rows sizes (settled (z .room) s)
+      go (yes l) d =
+          let b = subst (λ (v : State). (v .over ≡ true) × (v .opened ≡ z .allowance)) (sym (A .is)) (run-many z (A .visits) rows sizes l) in
+          subst (ListsOn (onSheet X) (z .allowance) rows sizes)
+          (ap (λ (o : ℕ). left 10 0 0 o 0 (filled 255 rows) (filled 0 sizes)) (sym (b .1)) ∙ settled-over (z .room) s (b .0) bytes-filled sizes-filled)
+          (beyond-allowance (walk-opened (A .walk)) l)
+      go (no f) d = within (A .is ∙ run-all z (A .visits) rows sizes (R .room-rows) (R .room-sizes) (omega arith)) d
+        where
+          within : s ≡ state (length (A .visits)) (length lines) (total (sizesOf lines)) false (over (flat (rowsOf (take (z .room) lines))) rows) (over (sizesOf (take (z .room) lines)) sizes)
+              → Dec (z .room < length lines) → ListsOn (onSheet X) (z .allowance) rows sizes (settled (z .room) s)
+          within w (yes l) =
+              let m = ap (λ (v : State). v .listed) w in
+              subst (ListsOn (onSheet X) (z .allowance) rows sizes)
+              (ap (λ (v : State). left 11 0 (v .listed) (v .opened) (v .total) (filled 255 rows) (filled 0 sizes)) (sym w) ∙ settled-crowded (z .room) s (ap (λ (v : State). v .over) w) (omega arith) bytes-filled sizes-filled)
+              (beyond-room (walk-opened (A .walk)) (omega arith) (sizes-sum (plan-kinds (Y .sound)) lists) lists (omega arith))
+          within w (no g) =
+              let m = ap (λ (v : State). v .listed) w in
+              let t : take (z .room) lines ≡ lines = take-all (z .room) lines (omega arith) in
+              subst (ListsOn (onSheet X) (z .allowance) rows sizes)
+              (ap (λ (F : List Line). left 0 0 (length lines) (length (A .visits)) (total (sizesOf lines)) (over (flat (rowsOf F)) rows) (over (sizesOf F) sizes)) (sym t)
+              ∙ ap (λ (v : State). left 0 0 (v .listed) (v .opened) (v .total) (v .rows) (v .sizes)) (sym w) ∙ settled-fits (z .room) s (ap (λ (v : State). v .over) w) (omega arith))
+              (listed (walk-opened (A .walk)) (omega arith) (sizes-sum (plan-kinds (Y .sound)) lists) lists (omega arith))
+
+pub settles : (s : List ℕ) (z : Limits) {k n m : ℕ} {member allowed ends : List ℕ} {swaps : List (List ℕ)} (rows sizes : List ℕ) (v : State) (o : Left) → Given s k n m member allowed ends swaps → z .carriers ≡ k → z .risers ≡ n → z .room ≡ min (length rows / n) (length sizes)
+    → Searches z m (tables member allowed ends) swaps rows sizes v → length (v .rows) ≡ length rows → length (v .sizes) ≡ length sizes → o ≡ settled (z .room) v → Lists s (z .allowance) rows sizes o
+unfolding room
+settles s z {k} {n} {m} {member} {allowed} {ends} {swaps} rows sizes v o G ek en er S lr lz e =
+    let X = G .sheet in
+    let q : z .room ≡ min (length rows / risers X) (length sizes) = er ∙ ap (λ (j : ℕ). min (length rows / j) (length sizes)) (sym (G .serves .risers)) in
+    Lists.sheet (G .accepted) (subst (ListsOn (onSheet X) (z .allowance) rows sizes) (sym e) (settles-on (served G z ek en) (ready G z rows sizes ek en er) (S .walks X (served G z ek en)) q lr lz))

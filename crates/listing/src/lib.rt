@@ -7,9 +7,9 @@ ghost use Prim.Native.Nat.{_/_, _<_, min};
 ghost use Rattle.ground.specs.Meanings.Listing.{Lists, left, filled};
 ghost use Rattle.search.specs.Search.{stateOf};
 ghost use Rattle.listing.specs.Settling.{settled};
-use search::Limits;
 use search::Tally;
 use sheet::Head;
+use tree::Limits;
 
 // The answer: the number of the refusal and its place, both 0 where there is none; how many plans are listed, how many rows were
 // opened, and how many plans there are.

@@ -1,18 +1,16 @@
-pub mod Visits
-pub mod Weights
-pub mod Search
-pub mod Runs
-pub mod Budgets
-pub mod Rows
-pub mod Fitting
-pub mod OnSheet
-pub mod Joins
-pub mod Openings
-pub mod Written
+-- The search: what its functions ask and promise, and why they keep it.
+--
+--   Answer     what the search asks and promises
+--   Search     what the functions below it ask and promise each other
+--   Fitting    what a level and the rules say of the carriers after a row
+--   Remaining  what is left of a mask whose carriers are tried one after another
+--   Finishing  the last riser's loop
+--   Trying     the riser function and the carrier function
+--   Starting   the search from the empty row
 pub mod Answer
-pub mod Answering
+pub mod Search
+pub mod Fitting
+pub mod Remaining
 pub mod Finishing
 pub mod Trying
 pub mod Starting
-pub mod Copying
-pub mod Remaining

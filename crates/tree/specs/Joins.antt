@@ -19,7 +19,7 @@ use Rattle.ground.specs.Meanings.Group.{_≼_}
 use Rattle.ground.specs.Meanings.Listing.{Line, rowsOf, Ascending}
 use Rattle.ground.specs.Laws.Enumerations.{enum-append, enum-iff}
 use Rattle.ground.specs.Laws.Order.{order-under, order-prefix}
-use Rattle.search.specs.Visits.{line, Weight, joinOver, visits, branch}
+use Rattle.tree.specs.Visits.{line, Weight, joinOver, visits, branch}
 
 rows-append : (xs ys : List Line) → rowsOf (xs ++ ys) ≡ rowsOf xs ++ rowsOf ys
 rows-append [] ys = refl

@@ -1,6 +1,5 @@
 -- What a run leaves: all visits counted and the plans written as far as there is room; or a stop at the allowance.
 --
---   wholes n vs          the visits that have all n risers: the plans
 --   AllWhole n F         each row of F has n carriers
 --   written, noted       the lent rows and sizes after the plans F are listed, l having been listed before
 --
@@ -21,12 +20,10 @@ use lib.Seq.{paste, length-paste, take-paste, drop-paste, take-all, take-nil, ta
 use Rattle.ground.specs.Meanings.Exactly.{_∈_}
 use Rattle.ground.specs.Meanings.Listing.{Line, rowsOf, sizesOf, flat, over}
 use Rattle.ground.specs.Laws.Classes.{total}
-use Rattle.search.specs.Visits.{State, state, listing, opening, run}
-use Rattle.search.specs.Runs.{run-none, run-first, run-stop}
-
-abbrev pub wholes : ℕ → List Line → List Line
-wholes n [] = []
-wholes n (v ∷ vs) = cond (eqb (length (v .row)) n) (v ∷ wholes n vs) (wholes n vs)
+use Rattle.tree.specs.declared.Limits.{Limits}
+use Rattle.tree.specs.Visits.{State, state, empty, listing, opening, run}
+use Rattle.tree.specs.Runs.{run-none, run-first, run-stop}
+use Rattle.tree.specs.Wholes.{wholes, wholes-mem}
 
 abbrev pub written : ℕ → ℕ → List Line → ℕ → List ℕ → List ℕ
 written n room [] l rows = rows
@@ -41,21 +38,27 @@ noted room (v ∷ F) l sizes = noted room F (l + 1) (cond (ltb l room) (set size
 same-state : (o o′ l l′ t t′ : ℕ) (b : Bool) (r z : List ℕ) → o ≡ o′ → l ≡ l′ → t ≡ t′ → state o l t b r z ≡ state o′ l′ t′ b r z
 same-state o o′ l l′ t t′ b r z p q s = ap (λ (x : ℕ). state x l t b r z) p ∙ ap (λ (x : ℕ). state o′ x t b r z) q ∙ ap (λ (x : ℕ). state o′ l′ x b r z) s
 
-module _ (n room allowance : ℕ) where
+module _ (z : Limits) where
+  abbrev n : ℕ
+  n = z .risers
+
+  abbrev room : ℕ
+  room = z .room
+
   abbrev Ended : List Line → List Line → ℕ → ℕ → ℕ → List ℕ → List ℕ → State
   Ended vs F o l t rows sizes = state (o + length vs) (l + length F) (t + total (sizesOf F)) false (written n room F l rows) (noted room F l sizes)
 
   -- the allowance is enough
-  pub run-all : (vs : List Line) (o l t : ℕ) (rows sizes : List ℕ) → o + length vs ≤ allowance
-      → run n room allowance vs (state o l t false rows sizes) ≡ state (o + length vs) (l + length (wholes n vs)) (t + total (sizesOf (wholes n vs))) false (written n room (wholes n vs) l rows) (noted room (wholes n vs) l sizes)
-  run-all [] o l t rows sizes h =
-      run-none n room allowance (state o l t false rows sizes) ∙ same-state o (o + 0) l (l + 0) t (t + 0) false rows sizes (omega arith) (omega arith) (omega arith)
-  run-all (v ∷ vs) o l t rows sizes h =
-      run-first n room allowance v vs (state o l t false rows sizes) refl (omega arith) ∙ go (eqb (length (v .row)) n) (λ l t rows sizes. run-all vs (o + 1) l t rows sizes (omega arith))
+  run-all-from : (vs : List Line) (o l t : ℕ) (rows sizes : List ℕ) → o + length vs ≤ z .allowance
+      → run z vs (state o l t false rows sizes) ≡ state (o + length vs) (l + length (wholes n vs)) (t + total (sizesOf (wholes n vs))) false (written n room (wholes n vs) l rows) (noted room (wholes n vs) l sizes)
+  run-all-from [] o l t rows sizes h =
+      run-none z (state o l t false rows sizes) ∙ same-state o (o + 0) l (l + 0) t (t + 0) false rows sizes (omega arith) (omega arith) (omega arith)
+  run-all-from (v ∷ vs) o l t rows sizes h =
+      run-first z v vs (state o l t false rows sizes) refl (omega arith) ∙ go (eqb (length (v .row)) n) (λ l t rows sizes. run-all-from vs (o + 1) l t rows sizes (omega arith))
     where
       go : (b : Bool)
-          → ((l t : ℕ) (rows sizes : List ℕ) → run n room allowance vs (state (o + 1) l t false rows sizes) ≡ Ended vs (wholes n vs) (o + 1) l t rows sizes)
-          → run n room allowance vs (cond b (listing n room v (opening (state o l t false rows sizes))) (opening (state o l t false rows sizes))) ≡ Ended (v ∷ vs) (cond b (v ∷ wholes n vs) (wholes n vs)) o l t rows sizes
+          → ((l t : ℕ) (rows sizes : List ℕ) → run z vs (state (o + 1) l t false rows sizes) ≡ Ended vs (wholes n vs) (o + 1) l t rows sizes)
+          → run z vs (cond b (listing z v (opening (state o l t false rows sizes))) (opening (state o l t false rows sizes))) ≡ Ended (v ∷ vs) (cond b (v ∷ wholes n vs) (wholes n vs)) o l t rows sizes
       go true f =
           f (l + 1) (t + v .size) (cond (ltb l room) (paste rows (l * n) (v .row) n) rows) (cond (ltb l room) (set sizes l (v .size)) sizes)
           ∙ same-state (o + 1 + length vs) (o + length (v ∷ vs)) (l + 1 + length (wholes n vs)) (l + length (v ∷ wholes n vs)) (t + v .size + total (sizesOf (wholes n vs))) (t + total (sizesOf (v ∷ wholes n vs))) false (written n room (v ∷ wholes n vs) l rows) (noted room (v ∷ wholes n vs) l sizes) (omega arith) (omega arith) (omega arith)
@@ -64,22 +67,22 @@ module _ (n room allowance : ℕ) where
           ∙ same-state (o + 1 + length vs) (o + length (v ∷ vs)) (l + length (wholes n vs)) (l + length (wholes n vs)) (t + total (sizesOf (wholes n vs))) (t + total (sizesOf (wholes n vs))) false (written n room (wholes n vs) l rows) (noted room (wholes n vs) l sizes) (omega arith) refl refl
 
   -- it is not
-  pub run-many : (vs : List Line) (o l t : ℕ) (rows sizes : List ℕ) → o ≤ allowance → allowance < o + length vs
-      → ((run n room allowance vs (state o l t false rows sizes)) .over ≡ true) × ((run n room allowance vs (state o l t false rows sizes)) .opened ≡ allowance)
-  run-many [] o l t rows sizes le lt = absurd (omega arith)
-  run-many (v ∷ vs) o l t rows sizes le lt = go (decLt o allowance) (λ l t rows sizes h. run-many vs (o + 1) l t rows sizes h (omega arith))
+  run-many-from : (vs : List Line) (o l t : ℕ) (rows sizes : List ℕ) → o ≤ z .allowance → z .allowance < o + length vs
+      → ((run z vs (state o l t false rows sizes)) .over ≡ true) × ((run z vs (state o l t false rows sizes)) .opened ≡ z .allowance)
+  run-many-from [] o l t rows sizes le lt = absurd (omega arith)
+  run-many-from (v ∷ vs) o l t rows sizes le lt = go (decLt o (z .allowance)) (λ l t rows sizes h. run-many-from vs (o + 1) l t rows sizes h (omega arith))
     where
       Stopped : State → Type 0
-      Stopped s = (s .over ≡ true) × (s .opened ≡ allowance)
+      Stopped s = (s .over ≡ true) × (s .opened ≡ z .allowance)
 
-      more : (b : Bool) → ((l t : ℕ) (rows sizes : List ℕ) → Stopped (run n room allowance vs (state (o + 1) l t false rows sizes)))
-          → Stopped (run n room allowance vs (cond b (listing n room v (opening (state o l t false rows sizes))) (opening (state o l t false rows sizes))))
+      more : (b : Bool) → ((l t : ℕ) (rows sizes : List ℕ) → Stopped (run z vs (state (o + 1) l t false rows sizes)))
+          → Stopped (run z vs (cond b (listing z v (opening (state o l t false rows sizes))) (opening (state o l t false rows sizes))))
       more true f = f (l + 1) (t + v .size) (cond (ltb l room) (paste rows (l * n) (v .row) n) rows) (cond (ltb l room) (set sizes l (v .size)) sizes)
       more false f = f l t rows sizes
 
-      go : Dec (o < allowance) → ((l t : ℕ) (rows sizes : List ℕ) → o + 1 ≤ allowance → Stopped (run n room allowance vs (state (o + 1) l t false rows sizes))) → Stopped (run n room allowance (v ∷ vs) (state o l t false rows sizes))
-      go (yes h) f = rw (run-first n room allowance v vs (state o l t false rows sizes) refl h) (more (eqb (length (v .row)) n) (λ l t rows sizes. f l t rows sizes (omega arith)))
-      go (no h) f = rw (run-stop n room allowance v vs (state o l t false rows sizes) refl (omega arith)) (refl, omega arith)
+      go : Dec (o < z .allowance) → ((l t : ℕ) (rows sizes : List ℕ) → o + 1 ≤ z .allowance → Stopped (run z vs (state (o + 1) l t false rows sizes))) → Stopped (run z (v ∷ vs) (state o l t false rows sizes))
+      go (yes h) f = rw (run-first z v vs (state o l t false rows sizes) refl h) (more (eqb (length (v .row)) n) (λ l t rows sizes. f l t rows sizes (omega arith)))
+      go (no h) f = rw (run-stop z v vs (state o l t false rows sizes) refl (omega arith)) (refl, omega arith)
 
 -- ---- what is written, as a whole
 
@@ -187,7 +190,7 @@ take-mem zero l x m = absurd (List·Memᴰ·not-nil m)
 take-mem (suc j) [] x m = m
 take-mem (suc j) (y ∷ l) x m = elim (List·Memᴰ·cases-cons m) [ inl e ↦ List·Memᴰ·head e | inr t ↦ List·Memᴰ·tail (take-mem j l x t) ]
 
-pub written-is : (n room : ℕ) (F : List Line) (rows : List ℕ) → AllWhole n F → room * n ≤ length rows → written n room F 0 rows ≡ over (flat (rowsOf (take room F))) rows
+written-is : (n room : ℕ) (F : List Line) (rows : List ℕ) → AllWhole n F → room * n ≤ length rows → written n room F 0 rows ≡ over (flat (rowsOf (take room F))) rows
 written-is n room F rows long fits =
     let e : room - 0 ≡ room = omega arith in
     let z : 0 * n ≡ 0 = omega arith in
@@ -200,7 +203,7 @@ written-is n room F rows long fits =
     zero-plus : (x : ℕ) → 0 + x ≡ x
     zero-plus x = omega arith
 
-pub noted-is : (room : ℕ) (F : List Line) (sizes : List ℕ) → room ≤ length sizes → noted room F 0 sizes ≡ over (sizesOf (take room F)) sizes
+noted-is : (room : ℕ) (F : List Line) (sizes : List ℕ) → room ≤ length sizes → noted room F 0 sizes ≡ over (sizesOf (take room F)) sizes
 noted-is room F sizes fits =
     let e : room - 0 ≡ room = omega arith in
     let f : 0 + length (take room F) ≡ length (sizesOf (take room F)) = zero-plus (length (take room F)) ∙ sym (length-map (take room F) (λ (l : Line). l .size)) in
@@ -210,3 +213,19 @@ noted-is room F sizes fits =
   where
     zero-plus : (x : ℕ) → 0 + x ≡ x
     zero-plus x = omega arith
+
+-- ---- a run of all visits from the start, in the words of the listing
+
+module _ (z : Limits) (vs : List Line) (rows sizes : List ℕ) where
+  abbrev plans : List Line
+  plans = wholes (z .risers) vs
+
+  pub run-all : z .room * z .risers ≤ length rows → z .room ≤ length sizes → length vs ≤ z .allowance
+      → run z vs (empty rows sizes) ≡ state (length vs) (length plans) (total (sizesOf plans)) false (over (flat (rowsOf (take (z .room) plans))) rows) (over (sizesOf (take (z .room) plans)) sizes)
+  run-all fr fz le =
+      run-all-from z vs 0 0 0 rows sizes (omega arith)
+      ∙ ap₂ (λ (x y : List ℕ). state (0 + length vs) (0 + length plans) (0 + total (sizesOf plans)) false x y) (written-is (z .risers) (z .room) plans rows (λ v i. wholes-mem (z .risers) vs v i .1) fr) (noted-is (z .room) plans sizes fz)
+      ∙ same-state (0 + length vs) (length vs) (0 + length plans) (length plans) (0 + total (sizesOf plans)) (total (sizesOf plans)) false (over (flat (rowsOf (take (z .room) plans))) rows) (over (sizesOf (take (z .room) plans)) sizes) (omega arith) (omega arith) (omega arith)
+
+  pub run-many : z .allowance < length vs → (run z vs (empty rows sizes) .over ≡ true) × (run z vs (empty rows sizes) .opened ≡ z .allowance)
+  run-many lt = run-many-from z vs 0 0 0 rows sizes (omega arith) (omega arith)

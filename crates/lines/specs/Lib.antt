@@ -1,0 +1,2 @@
+-- A list that is copied into another some entries at a time.
+pub mod Copying
