@@ -1,13 +1,13 @@
 //! Answers by brute force.
 //!
-//!   brute            answers the lines of standard input, one for one
+//!   brute            answers the lines of standard input, one for one; client/ask.rs has the lines
 //!   brute program    prints what the program prints for the sheet on standard input
 //!   brute chains     for each line `NAME k | swap ; .. | order | lengths` of standard input, holds our own
 //!                    chain along 0, 1, 2, .. to the order and the orbit lengths that the line states
 
-use brute::answer::{printed, PROGRAM_READS};
 use brute::group::{Budget, Chain};
 use brute::line::answered;
+use brute::program::{printed, PROGRAM_READS};
 use std::io::{self, BufRead, Read, Write};
 use std::process::ExitCode;
 
