@@ -2,12 +2,13 @@
 
 use crate::calls::list::list;
 use crate::group::{Budget, TooLarge};
+use crate::sheet::LONGEST;
 
 /// The allowance and the lengths of the lists that the program lends, and the most bytes that it reads.
 const PROGRAM_ALLOWANCE: u64 = 1_000_000;
 const PROGRAM_BYTES: usize = 24_576;
 const PROGRAM_SIZES: usize = 2_048;
-pub const PROGRAM_READS: usize = 30_215;
+pub const PROGRAM_READS: usize = LONGEST + 1;
 
 /// What the program prints for a sheet on its standard input.
 pub fn printed(sheet: &[u8], budget: &mut Budget) -> Result<String, TooLarge> {
