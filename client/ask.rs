@@ -3,11 +3,12 @@
 //!   ID list SHEET ALLOWANCE BYTES SIZES    ID NUMBER PLACE LISTED OPENED TOTAL BYTES SIZES
 //!   ID fold SHEET ROW FIRST MEMBER         ID NUMBER PLACE SIZE FIRST MEMBER
 //!
-//! Words are parted by one space; the ID is what stands before the first. Bytes are lower-case hex, lists of 64-bit numbers decimal
-//! with commas, an empty one of either is `-`. Lent lists are given as they are before the call and answered as they are after it.
-//! A line that cannot be read is answered `ID ? reason`.
-//!
-//! A further call is a function like `list` below, and its line in `CALLS`.
+//! On the left is what is asked, on the right what is answered. Words are parted by one space; the ID is whatever stands before the first.
+//! SHEET, ROW, BYTES, FIRST and MEMBER are bytes in lower-case hex, SIZES are 64-bit numbers in decimal with commas, and an empty one of
+//! either is `-`; every other word is a 64-bit number in decimal. Lent lists are given as they are before the call and answered as they are
+//! after it. A line that cannot be read is answered `ID ? reason`. docs/SHEET.md says what the words mean.
+
+// A further call is its line above, a function like `list` below, and its line in `CALLS`.
 
 mod saucewagon;
 
@@ -19,7 +20,7 @@ type Call = fn(&mut Words) -> Result<String, String>;
 /// The calls, by the names that a line gives them.
 const CALLS: [(&str, Call); 2] = [("list", list), ("fold", fold)];
 
-/// `list SHEET ALLOWANCE BYTES SIZES`
+/// Lists the plans of a sheet.
 fn list(words: &mut Words) -> Result<String, String> {
     let sheet = words.bytes("SHEET")?;
     let allowance = words.number("ALLOWANCE")?;
@@ -31,7 +32,7 @@ fn list(words: &mut Words) -> Result<String, String> {
     Ok(format!("{number} {place} {listed} {opened} {total} {} {}", hex(&bytes), decimal(&sizes)))
 }
 
-/// `fold SHEET ROW FIRST MEMBER`
+/// Folds a row of a sheet.
 fn fold(words: &mut Words) -> Result<String, String> {
     let sheet = words.bytes("SHEET")?;
     let row = words.bytes("ROW")?;

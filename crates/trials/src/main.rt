@@ -1,18 +1,24 @@
 // Holds the proved calls to brute force: asks the questions on standard input, and prints a line for each answer. The file stdout
 // beside this has what brute force says; tools/trials makes both.
 //
-// A question is a head of sixteen bytes, then a sheet, then, to fold, a row. Numbers have their low byte first.
+// A question is a head of sixteen bytes, then a sheet, then what its kind has besides. Numbers have their low byte first.
 //
-//   0       0 to list, 1 to fold
+//   0       the kind
 //   1       what the lent lists are filled from
 //   2, 3    the length of the sheet
-//   4, 5    the length of the first lent list: the rows' bytes, or the buffer for the first image
-//   6, 7    the length of the second: the sizes, or the buffer for the member
-//   8 - 15  the allowance, or the length of the row
+//   4, 5    the length of the first lent list
+//   6, 7    the length of the second
+//   8 - 15  a number
 //
-// To list, the line is NUMBER PLACE LISTED OPENED TOTAL BYTES SIZES; to fold, NUMBER PLACE SIZE FIRST MEMBER. Bytes are in hex,
-// sizes in decimal with commas, an empty list is -. Where a row is folded, MEMBER is not the member itself, of which there may be
-// several, but what it makes of the row, and then whether it is a permutation.
+//   kind    first lent list    second lent list    number                   besides
+//   LIST    rows' bytes        sizes               the allowance            nothing
+//   FOLD    first image        member              the length of the row    the row
+//
+// An answer's line is that of `./ask` without its ID (client/ask.rs). Where a row is folded, MEMBER is not the member itself, of which
+// there may be several, but what it makes of the row, and then whether it is a permutation. A question of a kind that is not known is
+// answered `? no such kind`, and is the last, since nobody knows where the next begins.
+//
+// A further kind is a row above, a number below, an arm of `answer`, and a function like `listing_trial`.
 ghost use Prim.Native.Nat.{_≤_};
 use folding::fold;
 use ground::LONGEST;
@@ -20,6 +26,11 @@ use listing::list;
 use text::end_line;
 use text::put;
 use text::put_number;
+
+// The kinds of questions.
+const LIST: u8 = 0;
+
+const FOLD: u8 = 1;
 
 // The length of a question's head.
 const HEAD: usize = 16;
@@ -53,7 +64,7 @@ fn main() {
     }
 }
 
-// Asks the next question and prints its answer; false where no whole question is left.
+// Asks the next question and prints its answer; false where there is no next one that can be asked.
 fn trial() -> bool {
     let mut head = [0u8; HEAD];
     let mut sheet = [0u8; SHEET];
@@ -64,11 +75,22 @@ fn trial() -> bool {
     if !read(&mut sheet, length) {
         return false;
     }
-    if head[0] == 0 {
-        listing_trial(&head, start(&sheet, length))
-    } else {
-        folding_trial(&head, start(&sheet, length))
+    answer(&head, start(&sheet, length))
+}
+
+// Asks a question of the kind that its head says, and prints its answer; false where it is not whole, or of a kind that is not known.
+fn answer(head: &[u8; HEAD], sheet: &[u8]) -> bool {
+    match head[0] {
+        LIST => listing_trial(head, sheet),
+        FOLD => folding_trial(head, sheet),
+        _ => unknown(),
     }
+}
+
+// Says that a kind is not known.
+fn unknown() -> bool {
+    io::write_all(1, b"? no such kind\n");
+    false
 }
 
 // Reads so many bytes into the start of a list; false where fewer are left, or the list is too short.

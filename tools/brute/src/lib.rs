@@ -2,8 +2,10 @@
 //!
 //!   sheet      the job sheet, its reader with refusals 1 to 9, and its writer
 //!   group      products of swaps, images of a row, membership
-//!   answer     what listing and folding answer and leave in the lent lists
+//!   count      what a listing counts
+//!   calls      the calls, each with its questions, its answers and its trials
 //!   line       questions and answers as lines of text
+//!   program    what the program prints
 //!   chance     seeded numbers
 //!   shapes     swaps, lists and rules of many shapes, closed under the swaps
 //!   damage     sheets cut, changed and extended
@@ -12,13 +14,15 @@
 //!   trials     the questions of the gate, in a compact form
 //!   help       `--help` of the programs
 
-pub mod answer;
+pub mod calls;
 pub mod chance;
+pub mod count;
 pub mod damage;
 pub mod edges;
 pub mod group;
 pub mod help;
 pub mod line;
+pub mod program;
 pub mod questions;
 pub mod shapes;
 pub mod sheet;

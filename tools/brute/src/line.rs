@@ -1,21 +1,8 @@
-//! Questions and answers as lines of text.
-//!
-//!   ID list SHEET ALLOWANCE BYTES SIZES    ID NUMBER PLACE LISTED OPENED TOTAL BYTES SIZES
-//!   ID fold SHEET ROW FIRST MEMBER         ID NUMBER PLACE SIZE FIRST MEMBER
-//!
-//! Words are parted by one space. Bytes are lower-case hex, 64-bit lists decimal with commas, an empty one of
-//! either is `-`. Lent lists are given as they were before and answered as they are after. A line that cannot
-//! be read is answered `ID ? reason`.
+//! Questions and answers as lines of text. client/ask.rs has the lines and their words; each call reads and says its own.
 
-use crate::answer::{fold, list, Folding, Listing};
+pub use crate::calls::Question;
+use crate::calls::CALLS;
 use crate::group::Budget;
-
-/// A call and what is handed to it.
-#[derive(Clone, Debug, PartialEq, Eq)]
-pub enum Question {
-    List { sheet: Vec<u8>, allowance: u64, bytes: Vec<u8>, sizes: Vec<u64> },
-    Fold { sheet: Vec<u8>, row: Vec<u8>, first: Vec<u8>, member: Vec<u8> },
-}
 
 /// The name of a question: what stands before the line's first space.
 pub fn name(line: &str) -> &str {
@@ -25,34 +12,14 @@ pub fn name(line: &str) -> &str {
 /// The question that a line asks, or why it cannot be read.
 pub fn question(line: &str) -> Result<Question, String> {
     let words: Vec<&str> = line.split(' ').skip(1).collect();
-    match words[..] {
-        ["list", sheet, allowance, bytes, sizes] => Ok(Question::List {
-            sheet: bytes_of(sheet)?,
-            allowance: number_of(allowance)?,
-            bytes: bytes_of(bytes)?,
-            sizes: sizes_of(sizes)?,
-        }),
-        ["fold", sheet, row, first, member] => Ok(Question::Fold {
-            sheet: bytes_of(sheet)?,
-            row: bytes_of(row)?,
-            first: bytes_of(first)?,
-            member: bytes_of(member)?,
-        }),
-        ["list", ..] | ["fold", ..] => Err(format!("{} takes four words", words[0])),
-        _ => Err("no such call".to_string()),
-    }
+    let call = words.first().and_then(|name| CALLS.iter().find(|call| call.name == *name));
+    call.map_or_else(|| Err("no such call".to_string()), |call| (call.read)(&words[1..]))
 }
 
 /// The line that asks a question under a name.
 pub fn asked(name: &str, question: &Question) -> String {
-    match question {
-        Question::List { sheet, allowance, bytes, sizes } => {
-            format!("{name} list {} {allowance} {} {}", hex(sheet), hex(bytes), commas(sizes))
-        }
-        Question::Fold { sheet, row, first, member } => {
-            format!("{name} fold {} {} {} {}", hex(sheet), hex(row), hex(first), hex(member))
-        }
-    }
+    let asked = question.asked();
+    format!("{name} {} {}", asked.call().name, asked.words())
 }
 
 /// The answer to a line, as a line.
@@ -67,27 +34,7 @@ pub fn answered(line: &str, budget: &mut Budget) -> String {
 
 /// The words of an answer, or that brute force gave up.
 pub fn answer(question: &Question, budget: &mut Budget) -> Result<String, String> {
-    let words = match question {
-        Question::List { sheet, allowance, bytes, sizes } => {
-            list(sheet, *allowance, bytes, sizes, budget).map(|listing| listing_words(&listing))
-        }
-        Question::Fold { sheet, row, first, member } => {
-            fold(sheet, row, first, member, budget).map(|folding| folding_words(&folding))
-        }
-    };
-    words.map_err(|_| "too large for brute force".to_string())
-}
-
-/// A listing's answer in words.
-pub fn listing_words(listing: &Listing) -> String {
-    let Listing { number, place, listed, opened, total, bytes, sizes } = listing;
-    format!("{number} {place} {listed} {opened} {total} {} {}", hex(bytes), commas(sizes))
-}
-
-/// A folding's answer in words.
-pub fn folding_words(folding: &Folding) -> String {
-    let Folding { number, place, size, first, member } = folding;
-    format!("{number} {place} {size} {} {}", hex(first), hex(member))
+    question.asked().answer(budget).map_err(|_| "too large for brute force".to_string())
 }
 
 /// Bytes in lower-case hex.
@@ -138,7 +85,7 @@ pub fn sizes_of(word: &str) -> Result<Vec<u64>, String> {
 }
 
 /// The 64-bit number that a word of decimal digits stands for.
-fn number_of(word: &str) -> Result<u64, String> {
+pub fn number_of(word: &str) -> Result<u64, String> {
     let decimal = !word.is_empty() && word.bytes().all(|letter| letter.is_ascii_digit());
     let number = if decimal { word.parse().ok() } else { None };
     number.ok_or_else(|| "a number is not a decimal of 64 bits".to_string())

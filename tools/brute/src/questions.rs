@@ -1,8 +1,8 @@
 //! The seeded run of questions: sheets of every kind, with allowances and lent lists that are exactly enough,
 //! one too few, or more than enough. Each question is one that brute force answers within a small budget.
 
-use crate::answer::count;
 use crate::chance::Chance;
+use crate::count::count;
 use crate::damage::damaged;
 use crate::edges::edge;
 use crate::group::Budget;
@@ -11,9 +11,35 @@ use crate::shapes;
 use crate::sheet::{read, Sheet};
 use std::collections::VecDeque;
 
-/// The kinds of questions, each with how often it is taken; damaged sheets come many at a time.
-pub const KINDS: [(&str, usize); 6] =
-    [("accepted", 44), ("unsymmetric", 16), ("damaged", 1), ("edge", 8), ("fold", 30), ("unreadable", 1)];
+/// A kind of questions.
+pub struct Kind {
+    pub name: &'static str,
+    pub what: &'static str,
+    /// How often it is taken beside the others; damaged sheets come many at a time.
+    share: usize,
+    /// Makes some lines of it, without their names.
+    make: fn(&mut Chance) -> Vec<String>,
+}
+
+/// The kinds. A further one is a function like `accepted` below, and its line here.
+pub static KINDS: [Kind; 6] = [
+    Kind { name: "accepted", what: "to list an accepted sheet", share: 44, make: accepted },
+    Kind {
+        name: "unsymmetric",
+        what: "to list a sheet that need not keep its swaps: 7 and 8 for the most part",
+        share: 16,
+        make: unsymmetric,
+    },
+    Kind {
+        name: "damaged",
+        what: "to list a sheet cut at each byte, with each byte changed, shifted, or extended",
+        share: 1,
+        make: all_damaged,
+    },
+    Kind { name: "edge", what: "to list a sheet at a limit, the longest among them", share: 8, make: at_an_edge },
+    Kind { name: "fold", what: "to fold a row", share: 30, make: folding },
+    Kind { name: "unreadable", what: "a line that cannot be read", share: 1, make: unreadable },
+];
 
 /// The steps that brute force may take for one question, and the most rows of all risers that a sheet is made with.
 const STEPS: u64 = 400_000;
@@ -22,7 +48,7 @@ const ROWS: usize = 20_000;
 /// A run of questions that its seed and its kinds settle.
 pub struct Run {
     chance: Chance,
-    kinds: Vec<(&'static str, usize)>,
+    kinds: Vec<&'static Kind>,
     waiting: VecDeque<(&'static str, String)>,
     given: usize,
 }
@@ -30,11 +56,11 @@ pub struct Run {
 impl Run {
     /// The run of a seed, over the named kinds, or over all where none is named.
     pub fn new(seed: u64, names: &[String]) -> Result<Self, String> {
-        if let Some(name) = names.iter().find(|name| KINDS.iter().all(|kind| kind.0 != **name)) {
+        if let Some(name) = names.iter().find(|name| KINDS.iter().all(|kind| kind.name != **name)) {
             return Err(format!("no kind {name}"));
         }
         let wanted = |name: &str| names.is_empty() || names.iter().any(|wanted| wanted == name);
-        let kinds = KINDS.into_iter().filter(|kind| wanted(kind.0)).collect();
+        let kinds = KINDS.iter().filter(|kind| wanted(kind.name)).collect();
         Ok(Run { chance: Chance::new(seed), kinds, waiting: VecDeque::new(), given: 0 })
     }
 
@@ -45,55 +71,58 @@ impl Run {
                 self.given += 1;
                 return format!("{kind}-{}{rest}", self.given);
             }
-            self.make();
+            let kind = self.pick();
+            self.waiting.extend((kind.make)(&mut self.chance).into_iter().map(|line| (kind.name, line)));
         }
     }
 
-    /// Makes one or more questions of some kind.
-    fn make(&mut self) {
-        let chance = &mut self.chance;
-        let mut pick = chance.below(self.kinds.iter().map(|kind| kind.1).sum());
+    /// One of the kinds, each as often as its share says.
+    fn pick(&mut self) -> &'static Kind {
+        let mut pick = self.chance.below(self.kinds.iter().map(|kind| kind.share).sum());
         let mut kinds = self.kinds.iter();
-        let kind = loop {
-            let (kind, share) = *kinds.next().unwrap();
-            if pick < share {
-                break kind;
+        loop {
+            let kind = *kinds.next().unwrap();
+            if pick < kind.share {
+                return kind;
             }
-            pick -= share;
-        };
-        let questions = match kind {
-            "accepted" => vec![accepted(chance)],
-            "unsymmetric" => vec![unsymmetric(chance)],
-            "damaged" => all_damaged(chance),
-            "edge" => vec![edge_question(chance)],
-            "fold" => vec![folding(chance)],
-            _ => {
-                self.waiting.push_back((kind, unreadable(chance)));
-                return;
-            }
-        };
-        for question in questions.into_iter().flatten() {
-            if answer(&question, &mut Budget(STEPS)).is_ok() {
-                self.waiting.push_back((kind, asked("", &question)));
-            }
+            pick -= kind.share;
         }
     }
 }
 
-/// A question to list an accepted sheet with few or many rows.
-fn accepted(chance: &mut Chance) -> Option<Question> {
+/// The lines, without their names, of those questions that brute force answers within its steps.
+fn lines(questions: impl IntoIterator<Item = Question>) -> Vec<String> {
+    let quick = |question: &Question| answer(question, &mut Budget(STEPS)).is_ok();
+    questions.into_iter().filter(quick).map(|question| asked("", &question)).collect()
+}
+
+/// To list an accepted sheet with few or many rows.
+fn accepted(chance: &mut Chance) -> Vec<String> {
     let most = *chance.one(&[10, 100, 1_000, 1_000, 5_000, ROWS]);
     let sheet = shapes::sheet(chance, most).written();
-    listing(chance, &sheet, None)
+    lines(listing(chance, &sheet, None))
 }
 
-/// A question to list a sheet that need not keep its swaps, and nine times in ten does not.
-fn unsymmetric(chance: &mut Chance) -> Option<Question> {
+/// To list a sheet that need not keep its swaps, and nine times in ten does not.
+fn unsymmetric(chance: &mut Chance) -> Vec<String> {
     let sheet = shapes::unsymmetric(chance, ROWS).written();
     if read(&sheet).is_ok() && chance.percent(90) {
-        return None;
+        return Vec::new();
     }
-    listing(chance, &sheet, None)
+    lines(listing(chance, &sheet, None))
+}
+
+/// To list damaged copies of one sheet.
+fn all_damaged(chance: &mut Chance) -> Vec<String> {
+    let sheet = shapes::sheet(chance, 500).written();
+    let copies = damaged(chance, &sheet);
+    lines(copies.iter().filter_map(|copy| listing(chance, copy, None)))
+}
+
+/// To list a sheet at some limit.
+fn at_an_edge(chance: &mut Chance) -> Vec<String> {
+    let edge = edge(chance);
+    lines(listing(chance, &edge.sheet, edge.most_allowance))
 }
 
 /// A question to list a sheet; where `most` is given, with an allowance that is no larger.
@@ -148,27 +177,14 @@ fn room_for(chance: &mut Chance, listed: usize, risers: usize) -> (usize, usize)
     (bytes, sizes)
 }
 
-/// Questions to list damaged copies of one sheet.
-fn all_damaged(chance: &mut Chance) -> Vec<Option<Question>> {
-    let sheet = shapes::sheet(chance, 500).written();
-    let copies = damaged(chance, &sheet);
-    copies.iter().map(|copy| listing(chance, copy, None)).collect()
-}
-
-/// A question to list a sheet at some limit.
-fn edge_question(chance: &mut Chance) -> Option<Question> {
-    let edge = edge(chance);
-    listing(chance, &edge.sheet, edge.most_allowance)
-}
-
-/// A question to fold a row, most often a whole one with buffers of the right lengths.
-fn folding(chance: &mut Chance) -> Option<Question> {
+/// To fold a row, most often a whole one with buffers of the right lengths.
+fn folding(chance: &mut Chance) -> Vec<String> {
     let sheet = match chance.below(20) {
         0 => edge(chance).sheet,
         1 => shapes::unsymmetric(chance, ROWS).written(),
         2 => {
             let sheet = shapes::sheet(chance, 100).written();
-            damaged(chance, &sheet).pop()?
+            damaged(chance, &sheet).pop().unwrap_or(sheet)
         }
         _ => {
             let most = *chance.one(&[100, ROWS, 1_000_000, 1_000_000_000]);
@@ -185,7 +201,7 @@ fn folding(chance: &mut Chance) -> Option<Question> {
         member = *chance.one(&[carriers, carriers - 1, carriers + 1, risers, 0]);
     }
     let (first, member) = (chance.bytes(first), chance.bytes(member));
-    Some(Question::Fold { sheet, row, first, member })
+    lines([Question::Fold { sheet, row, first, member }])
 }
 
 /// A row of a sheet, often with few different carriers, sometimes with one fault.
@@ -211,7 +227,7 @@ fn row(chance: &mut Chance, sheet: &Sheet) -> Vec<u8> {
 }
 
 /// What follows the name on a line that cannot be read.
-fn unreadable(chance: &mut Chance) -> String {
+fn unreadable(chance: &mut Chance) -> Vec<String> {
     let lines = [
         "",
         " ",
@@ -235,5 +251,5 @@ fn unreadable(chance: &mut Chance) -> String {
         " fold 01 zz - -",
         " Fold 01 00 - -",
     ];
-    chance.one(&lines).to_string()
+    vec![chance.one(&lines).to_string()]
 }

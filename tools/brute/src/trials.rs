@@ -1,22 +1,20 @@
-//! Questions for the gate: small ones in a compact form, with what brute force says.
-//!
-//! A question is a head of sixteen bytes, then a sheet, then, to fold, a row. Numbers have their low byte first.
-//!
-//!   0       0 to list, 1 to fold
-//!   1       what the lent lists are filled from
-//!   2, 3    the length of the sheet
-//!   4, 5    the length of the first lent list: the rows' bytes, or the buffer for the first image
-//!   6, 7    the length of the second: the sizes, or the buffer for the member
-//!   8 - 15  the allowance, or the length of the row
+//! Questions for the gate: small ones in the form that crates/trials/src/main.rt has, with what that program is to print.
 
-use crate::answer::{fold, list};
+use crate::calls::{Asked, Parts, CALLS};
 use crate::group::{Budget, TooLarge};
-use crate::line::{folding_words, hex, listing_words, question, Question};
-use crate::questions::{Run, KINDS};
+use crate::line::question;
+use crate::questions::Run;
 use crate::sheet::LONGEST;
 use std::collections::BTreeMap;
 
-/// How large a question may be: the lengths of the sheet, the row, the first lent list, and the second.
+/// The runs that questions are taken from, one after another: how many of which kinds. The kinds of a further call are a run of their own,
+/// so that the questions before it stay as they are.
+const RUNS: [(usize, &[&str]); 1] = [(4_000, &["accepted", "unsymmetric", "damaged", "edge", "fold"])];
+
+/// A kind of question that the gate's program does not know.
+const UNKNOWN: u8 = 255;
+
+/// How large a question may be: the lengths of the sheet, of what follows it, of the first lent list, and of the second.
 type Limits = [usize; 4];
 
 /// The limits for all questions, and for a few.
@@ -26,90 +24,82 @@ const LARGE: Limits = [LONGEST + 1, 20, 1_000, 120];
 /// How many bytes the sheets of the few may have together.
 const LARGE_BYTES: usize = 160_000;
 
-/// Questions in their compact form, a line for each answer, and how many answers to list and to fold have each number.
+/// Questions in their compact form, a line for each answer, and, for each call, how many answers have each number.
 #[derive(Default)]
 pub struct Trials {
     pub questions: Vec<u8>,
     pub answers: String,
-    pub numbers: [BTreeMap<u8, usize>; 2],
+    pub numbers: [BTreeMap<u8, usize>; CALLS.len()],
+    made: usize,
 }
 
-/// So many trials from the run of a seed.
-pub fn trials(seed: u64, count: usize) -> Result<Trials, TooLarge> {
-    let kinds: Vec<String> = KINDS.iter().map(|kind| kind.0.to_string()).filter(|kind| kind != "unreadable").collect();
-    let mut run = Run::new(seed, &kinds).expect("the kinds are the run's own");
+/// The trials of a seed.
+pub fn trials(seed: u64) -> Result<Trials, TooLarge> {
     let mut trials = Trials::default();
-    let (mut made, mut large) = (0, 0);
-    while made < count {
-        let Ok(question) = question(&run.line()) else { continue };
-        let sheet = lengths(&question)[0];
-        if !within(&question, &SMALL) {
-            if !within(&question, &LARGE) || large + sheet > LARGE_BYTES {
-                continue;
-            }
-            large += sheet;
-        }
-        trials.add(question, (made * 101) as u8)?;
-        made += 1;
+    for (count, kinds) in RUNS {
+        trials.run(seed, count, kinds)?;
     }
+    trials.reject();
     Ok(trials)
 }
 
-/// The lengths of a question's sheet, row and lent lists.
-fn lengths(question: &Question) -> [usize; 4] {
-    match question {
-        Question::List { sheet, bytes, sizes, .. } => [sheet.len(), 0, bytes.len(), sizes.len()],
-        Question::Fold { sheet, row, first, member } => [sheet.len(), row.len(), first.len(), member.len()],
-    }
-}
-
 /// Whether a question keeps to the limits.
-fn within(question: &Question, limits: &Limits) -> bool {
-    lengths(question).iter().zip(limits).all(|(length, limit)| length <= limit)
+fn within(parts: &Parts, limits: &Limits) -> bool {
+    let lengths = [parts.sheet.len(), parts.more.len(), parts.lent[0], parts.lent[1]];
+    lengths.iter().zip(limits).all(|(length, limit)| length <= limit)
 }
 
 impl Trials {
-    /// Adds a question, with its lent lists filled from a byte, and its answer.
-    fn add(&mut self, question: Question, from: u8) -> Result<(), TooLarge> {
-        let [sheet_length, row_length, first_length, second_length] = lengths(&question);
-        let budget = &mut Budget(u64::MAX);
-        let (call, number, sheet, row, answered, words) = match question {
-            Question::List { sheet, allowance, .. } => {
-                let answer = list(&sheet, allowance, &bytes_from(from, first_length), &sizes_from(from, second_length), budget)?;
-                let words = listing_words(&answer);
-                (0, allowance, sheet, Vec::new(), answer.number, words)
+    /// Adds so many trials of some kinds, from the run of a seed.
+    fn run(&mut self, seed: u64, count: usize, kinds: &[&str]) -> Result<(), TooLarge> {
+        let kinds: Vec<String> = kinds.iter().map(|kind| kind.to_string()).collect();
+        let mut run = Run::new(seed, &kinds).expect("the kinds are the generator's");
+        let (end, mut large) = (self.made + count, 0);
+        while self.made < end {
+            let Ok(question) = question(&run.line()) else { continue };
+            let asked = question.asked();
+            let parts = asked.parts();
+            if !within(&parts, &SMALL) {
+                if !within(&parts, &LARGE) || large + parts.sheet.len() > LARGE_BYTES {
+                    continue;
+                }
+                large += parts.sheet.len();
             }
-            Question::Fold { sheet, row, .. } => {
-                let answer = fold(&sheet, &row, &bytes_from(from, first_length), &bytes_from(from, second_length), budget)?;
-                let words = if answer.number == 0 {
-                    let moved: Vec<u8> = row.iter().map(|&carrier| answer.member[usize::from(carrier)]).collect();
-                    format!("0 0 {} {} {} permutation", answer.size, hex(&answer.first), hex(&moved))
-                } else {
-                    folding_words(&answer)
-                };
-                (1, row_length as u64, sheet, row, answer.number, words)
-            }
-        };
-        self.questions.extend([call as u8, from]);
-        for length in [sheet_length, first_length, second_length] {
-            self.questions.extend((length as u16).to_le_bytes());
+            let from = (self.made * 101) as u8;
+            self.add(asked.filled(from).asked().as_ref(), from)?;
         }
-        self.questions.extend(number.to_le_bytes());
-        self.questions.extend(sheet);
-        self.questions.extend(row);
-        self.answers += &words;
-        self.answers.push('\n');
-        *self.numbers[call].entry(answered).or_default() += 1;
         Ok(())
     }
-}
 
-/// Different bytes, from a byte on.
-fn bytes_from(from: u8, length: usize) -> Vec<u8> {
-    (0..length).map(|i| from.wrapping_add((i as u8).wrapping_mul(37))).collect()
-}
+    /// Adds a question whose lent lists are filled from a byte, and its answer.
+    fn add(&mut self, asked: &dyn Asked, from: u8) -> Result<(), TooLarge> {
+        let answer = asked.answer(&mut Budget(u64::MAX))?;
+        let number = answer.split(' ').next().and_then(|word| word.parse().ok()).expect("an answer starts with its number");
+        let place = CALLS.iter().position(|call| call.kind == asked.call().kind).expect("the call is one of the calls");
+        *self.numbers[place].entry(number).or_default() += 1;
+        self.ask(asked.call().kind, from, &asked.parts());
+        self.answers += &asked.printed(answer);
+        self.answers.push('\n');
+        self.made += 1;
+        Ok(())
+    }
 
-/// Different sizes, from a byte on.
-fn sizes_from(from: u8, length: usize) -> Vec<u64> {
-    (0..length as u64).map(|i| u64::from(from).wrapping_add(i.wrapping_mul(11_400_714_819_323_198_485))).collect()
+    /// Adds a question of a kind.
+    fn ask(&mut self, kind: u8, from: u8, parts: &Parts) {
+        self.questions.extend([kind, from]);
+        for length in [parts.sheet.len(), parts.lent[0], parts.lent[1]] {
+            self.questions.extend((length as u16).to_le_bytes());
+        }
+        self.questions.extend(parts.number.to_le_bytes());
+        self.questions.extend(parts.sheet);
+        self.questions.extend(parts.more);
+    }
+
+    /// Adds a question of a kind that the gate's program does not know, and one more, which it then does not come to.
+    fn reject(&mut self) {
+        for kind in [UNKNOWN, CALLS[0].kind] {
+            self.ask(kind, 0, &Parts { sheet: &[], lent: [0, 0], number: 0, more: &[] });
+        }
+        self.answers += "? no such kind\n";
+    }
 }

@@ -1,8 +1,12 @@
-//! Brute force held to itself: two ways to the same images, the chain beside the whole group, the reader beside the writer.
+//! Brute force held to itself: two ways to the same images, the chain beside the whole group, the reader beside the writer,
+//! lines beside questions.
 
+use brute::calls::CALLS;
 use brute::chance::Chance;
 use brute::edges::{known_swaps, longest};
 use brute::group::{class_by_members, folded, images_by_swaps, moved, packed, product, products, Budget, Chain};
+use brute::line::{asked, name, question};
+use brute::questions::Run;
 use brute::shapes;
 use brute::sheet::{read, LONGEST};
 
@@ -67,4 +71,21 @@ fn orders_are_known() {
     orders.sort_unstable();
     orders.dedup();
     assert_eq!(orders, [56, 168, 7_920, 95_040]);
+}
+
+/// Each line that can be read is what its question is asked by; each call is asked, and is known by a name and a kind of its own.
+#[test]
+fn lines_are_read_back() {
+    let mut run = Run::new(5, &[]).unwrap();
+    let mut names: Vec<&str> = Vec::new();
+    for _ in 0..2_000 {
+        let line = run.line();
+        let Ok(question) = question(&line) else { continue };
+        assert_eq!(asked(name(&line), &question), line);
+        names.push(question.asked().call().name);
+    }
+    for call in CALLS {
+        assert!(names.contains(&call.name), "nothing asks {}", call.name);
+        assert_eq!(CALLS.iter().filter(|other| other.name == call.name || other.kind == call.kind).count(), 1);
+    }
 }

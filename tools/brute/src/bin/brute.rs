@@ -1,13 +1,16 @@
 //! Answers by brute force.
 //!
-//!   brute            answers the lines of standard input, one for one
+//!   brute            answers the lines of standard input, one for one; client/ask.rs has the lines
 //!   brute program    prints what the program prints for the sheet on standard input
+//!   brute longest    prints a longest sheet
 //!   brute chains     for each line `NAME k | swap ; .. | order | lengths` of standard input, holds our own
 //!                    chain along 0, 1, 2, .. to the order and the orbit lengths that the line states
 
-use brute::answer::{printed, PROGRAM_READS};
+use brute::chance::Chance;
+use brute::edges::longest;
 use brute::group::{Budget, Chain};
 use brute::line::answered;
+use brute::program::{printed, PROGRAM_READS};
 use std::io::{self, BufRead, Read, Write};
 use std::process::ExitCode;
 
@@ -22,9 +25,10 @@ fn main() -> io::Result<ExitCode> {
     match words.iter().map(String::as_str).collect::<Vec<_>>()[..] {
         [] => answer_lines(),
         ["program"] => print_as_program(),
+        ["longest"] => io::stdout().write_all(&longest(&mut Chance::new(1)).written()).map(|()| ExitCode::SUCCESS),
         ["chains"] => hold_chains(),
         _ => {
-            eprintln!("brute: takes nothing, `program` or `chains`");
+            eprintln!("brute: takes nothing, `program`, `longest` or `chains`");
             Ok(ExitCode::FAILURE)
         }
     }

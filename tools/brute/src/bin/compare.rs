@@ -2,13 +2,12 @@
 //!
 //!   compare QUESTIONS BRUTE OTHER    three files, line for line
 //!
-//! Answers must be the same to the letter, but of two unreadable ones only the name and `?` count, and a member
-//! that folding writes is held to what it must do: be a member of the group and carry the row to the first image.
+//! Answers must be the same to the letter, but of two unreadable ones only the name and `?` count, and where several
+//! answers will do, as the members that folding may write, each is held to what it must do.
 //! Says where the answers differ; the last line is `N compared, M differ`.
 
-use brute::group::{moved, packed, Chain};
-use brute::line::{bytes_of, name, question, Question};
-use brute::sheet::read;
+use brute::calls::first_word_apart;
+use brute::line::{name, question};
 use std::fs;
 use std::process::ExitCode;
 
@@ -83,37 +82,9 @@ fn difference(asked: &str, brute: &str, other: &str) -> Option<String> {
     if gave_up(brute) {
         return Some("brute force gave no answer".to_string());
     }
-    match question {
-        Question::Fold { sheet, row, .. } if brute.starts_with(&format!("{} 0 ", name(asked))) => {
-            folding_difference(&sheet, &row, brute, other)
-        }
-        _ => (brute != other).then(|| first_word_apart(brute, other)),
+    if name(brute) != name(asked) {
+        return first_word_apart(brute, other);
     }
-}
-
-/// Which word of two answers is the first that differs.
-fn first_word_apart(brute: &str, other: &str) -> String {
-    let (brute, other): (Vec<&str>, Vec<&str>) = (brute.split(' ').collect(), other.split(' ').collect());
-    let same = brute.iter().zip(&other).take_while(|(brute, other)| brute == other).count();
-    format!("word {} of the answer differs", same + 1)
-}
-
-/// In what an accepted folding differs: all but the member to the letter, the member in what it must do.
-fn folding_difference(sheet: &[u8], row: &[u8], brute: &str, other: &str) -> Option<String> {
-    let (brute_words, other_words): (Vec<&str>, Vec<&str>) = (brute.split(' ').collect(), other.split(' ').collect());
-    if other_words.len() != 6 || brute_words[..5] != other_words[..5] {
-        return Some(first_word_apart(brute, other));
-    }
-    let sheet = read(sheet).ok()?;
-    let first = bytes_of(brute_words[4]).ok()?;
-    for (who, word) in [("brute", brute_words[5]), ("other", other_words[5])] {
-        let Ok(member) = bytes_of(word) else { return Some(format!("{who}: the member is no hex")) };
-        if !Chain::new(sheet.carriers, &sheet.swaps).has(&member) {
-            return Some(format!("{who}: the member is not of the group"));
-        }
-        if moved(&member, packed(row), row.len()) != packed(&first) {
-            return Some(format!("{who}: the member does not carry the row to the first image"));
-        }
-    }
-    None
+    let asked = question.asked();
+    asked.difference(brute, other)
 }

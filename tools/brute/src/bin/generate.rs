@@ -1,13 +1,18 @@
 //! Prints a seeded run of questions, one a line.
 //!
-//!   generate SEED COUNT [KIND ..]    kinds: accepted unsymmetric damaged edge fold unreadable; none named is all
+//!   generate SEED COUNT [KIND ..]    of these kinds, or of all where none is named
+//!
+//! The kinds:
 
-use brute::questions::Run;
+use brute::questions::{Run, KINDS};
 use std::io::{self, Write};
 use std::process::ExitCode;
 
 fn main() -> io::Result<ExitCode> {
     if brute::help::asked(include_str!("generate.rs")) {
+        for kind in &KINDS {
+            println!("  {:<13}{}", kind.name, kind.what);
+        }
         return Ok(ExitCode::SUCCESS);
     }
     let words: Vec<String> = std::env::args().skip(1).collect();

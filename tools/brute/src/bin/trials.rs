@@ -1,9 +1,10 @@
 //! Writes the gate's questions and what brute force answers to them.
 //!
-//!   trials SEED COUNT QUESTIONS ANSWERS    two files to write
+//!   trials SEED QUESTIONS ANSWERS    two files to write
 //!
-//! Says how many answers have each number, and fails where some number of the refusal table has none.
+//! Says how many answers have each number, and fails where some number that a call answers has none.
 
+use brute::calls::CALLS;
 use brute::trials::{trials, Trials};
 use std::fs;
 use std::process::ExitCode;
@@ -20,7 +21,7 @@ fn main() -> ExitCode {
             ExitCode::FAILURE
         }
         Err(reason) => {
-            eprintln!("trials: {reason}; takes SEED COUNT QUESTIONS ANSWERS");
+            eprintln!("trials: {reason}; takes SEED QUESTIONS ANSWERS");
             ExitCode::FAILURE
         }
     }
@@ -28,10 +29,9 @@ fn main() -> ExitCode {
 
 /// Writes both files, says what they hold, and names the answers that are missing.
 fn made(words: &[String]) -> Result<Vec<String>, String> {
-    let [seed, count, questions, answers] = words else { return Err("not four words".to_string()) };
+    let [seed, questions, answers] = words else { return Err("not three words".to_string()) };
     let seed = seed.parse().map_err(|_| "SEED is no number".to_string())?;
-    let count = count.parse().map_err(|_| "COUNT is no number".to_string())?;
-    let trials = trials(seed, count).map_err(|_| "too large for brute force".to_string())?;
+    let trials = trials(seed).map_err(|_| "too large for brute force".to_string())?;
     fs::write(questions, &trials.questions).map_err(|reason| format!("{questions}: {reason}"))?;
     fs::write(answers, &trials.answers).map_err(|reason| format!("{answers}: {reason}"))?;
     Ok(said(&trials))
@@ -40,13 +40,11 @@ fn made(words: &[String]) -> Result<Vec<String>, String> {
 /// Says how many answers to each call have each number, and names those that none has.
 fn said(trials: &Trials) -> Vec<String> {
     let mut missing = Vec::new();
-    for (call, numbers, wanted) in [("list", &trials.numbers[0], 0..12), ("fold", &trials.numbers[1], 0..14)] {
+    for (call, numbers) in CALLS.iter().zip(&trials.numbers) {
         let counts: Vec<String> = numbers.iter().map(|(number, count)| format!("{number}: {count}")).collect();
-        println!("{call} {}", counts.join(", "));
-        let own = |number: &u8| call == "list" || !(10..12).contains(number);
-        missing.extend(
-            wanted.filter(own).filter(|number| !numbers.contains_key(number)).map(|number| format!("{number} to {call}")),
-        );
+        println!("{} {}", call.name, counts.join(", "));
+        let lacking = call.numbers.iter().filter(|number| !numbers.contains_key(number));
+        missing.extend(lacking.map(|number| format!("{number} to {}", call.name)));
     }
     println!("{} bytes of questions, {} of answers", trials.questions.len(), trials.answers.len());
     missing
