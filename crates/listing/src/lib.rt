@@ -5,9 +5,9 @@
 ghost use mathlib.Core.Path.{_≡_};
 ghost use Prim.Native.Nat.{_/_, _<_, min};
 ghost use Rattle.ground.specs.Meanings.Listing.{Lists, left, filled};
-ghost use Rattle.search.specs.Search.{stateOf};
+ghost use Rattle.last.specs.Last.{stateOf};
 ghost use Rattle.listing.specs.Settling.{settled};
-use search::Tally;
+use last::Tally;
 use sheet::Head;
 use tree::Limits;
 

@@ -3,14 +3,10 @@
 --   Answer     what the search asks and promises
 --   Search     what the functions below it ask and promise each other
 --   Fitting    what a level and the rules say of the carriers after a row
---   Remaining  what is left of a mask whose carriers are tried one after another
---   Finishing  the last riser's loop
 --   Trying     the riser function and the carrier function
 --   Starting   the search from the empty row
 pub mod Answer
 pub mod Search
 pub mod Fitting
-pub mod Remaining
-pub mod Finishing
 pub mod Trying
 pub mod Starting

@@ -1,8 +1,10 @@
--- What a run leaves: all visits counted and the plans written as far as there is room; or a stop at the allowance.
+-- What a run leaves.
 --
---   AllWhole n F         each row of F has n carriers
---   written, noted       the lent rows and sizes after the plans F are listed, l having been listed before
+--   AllWhole n F     each row of F has n carriers
+--   written, noted   the lent rows and sizes after the plans F are listed, l having been listed before
 --
+-- Where the allowance is enough for the visits, a run from the empty state counts them all, and writes the plans among them as far as
+-- there is room (`run-all`); else it stops at the allowance (`run-many`).
 -- Assumes nothing.
 use mathlib.Core.Path.{_≡_, refl, sym, ap, ap₂, _∙_}
 use mathlib.Core.Logic.{inl, inr}
@@ -10,7 +12,7 @@ use mathlib.Core.Bool.{Bool, true, false, cond}
 use mathlib.Core.List.{List, [], _∷_, _++_, append-assoc, List·Memᴰ·head, List·Memᴰ·tail, List·Memᴰ·not-nil, List·Memᴰ·cases-cons}
 use Prim.Native.Nat.{ℕ, zero, suc, _+_, _*_, _-_, _≤_, _<_}
 use native.Mathlib.Decide.{decLt}
-use native.Mathlib.Nat.{mul-le-mul-right, mul-comm, mul-add}
+use native.Mathlib.Nat.{add-zero, zero-add, mul-le-mul-right, mul-comm, mul-add}
 use native.Mathlib.Numerals.{add-one}
 use native.Mathlib.Omega.{arith}
 use borrow.Author.Tests.{lt-ltb, le-ltb}
@@ -25,11 +27,11 @@ use Rattle.tree.specs.Visits.{State, state, empty, listing, opening, run
 use Rattle.tree.specs.Runs.{run-none, run-first, run-stop}
 use Rattle.tree.specs.Wholes.{wholes, wholes-mem}
 
-abbrev pub written : ℕ → ℕ → List Line → ℕ → List ℕ → List ℕ
+abbrev written : ℕ → ℕ → List Line → ℕ → List ℕ → List ℕ
 written n room [] l rows = rows
 written n room (v ∷ F) l rows = written n room F (l + 1) (cond (ltb l room) (paste rows (l * n) (v .row) n) rows)
 
-abbrev pub noted : ℕ → List Line → ℕ → List ℕ → List ℕ
+abbrev noted : ℕ → List Line → ℕ → List ℕ → List ℕ
 noted room [] l sizes = sizes
 noted room (v ∷ F) l sizes = noted room F (l + 1) (cond (ltb l room) (set sizes l (v .size)) sizes)
 
@@ -50,7 +52,7 @@ module _ (z : Limits) where
 
   -- the allowance is enough
   run-all-from : (vs : List Line) (o l t : ℕ) (rows sizes : List ℕ) → o + length vs ≤ z .allowance
-      → run z vs (state o l t false rows sizes) ≡ state (o + length vs) (l + length (wholes n vs)) (t + total (sizesOf (wholes n vs))) false (written n room (wholes n vs) l rows) (noted room (wholes n vs) l sizes)
+      → run z vs (state o l t false rows sizes) ≡ Ended vs (wholes n vs) o l t rows sizes
   run-all-from [] o l t rows sizes h =
       run-none z (state o l t false rows sizes) ∙ same-state o (o + 0) l (l + 0) t (t + 0) false rows sizes (omega arith) (omega arith) (omega arith)
   run-all-from (v ∷ vs) o l t rows sizes h =
@@ -94,14 +96,11 @@ noted-full : (room : ℕ) (F : List Line) (l : ℕ) (sizes : List ℕ) → room 
 noted-full room [] l sizes h = refl
 noted-full room (v ∷ F) l sizes h = rw (le-ltb l room h) (noted-full room F (l + 1) sizes (omega arith))
 
-abbrev pub AllWhole : ℕ → List Line → Type 0
+abbrev AllWhole : ℕ → List Line → Type 0
 AllWhole n F = (v : Line) → v ∈ F → length (v .row) ≡ n
 
 nothing-more : (l n : ℕ) (rows : List ℕ) → take (l * n) rows ++ ([] ++ drop ((l + 0) * n) rows) ≡ rows
-nothing-more l n rows = ap (λ (x : ℕ). take (l * n) rows ++ drop (x * n) rows) (plus-zero l) ∙ take-append-drop (l * n) rows
-  where
-    plus-zero : (l : ℕ) → l + 0 ≡ l
-    plus-zero l = omega arith
+nothing-more l n rows = ap (λ (x : ℕ). take (l * n) rows ++ drop (x * n) rows) (add-zero l) ∙ take-append-drop (l * n) rows
 
 written-from : (n room : ℕ) (F : List Line) (l : ℕ) (rows : List ℕ) → AllWhole n F → l ≤ room → room * n ≤ length rows
     → written n room F l rows ≡ take (l * n) rows ++ (flat (rowsOf (take (room - l) F)) ++ drop ((l + length (take (room - l) F)) * n) rows)
@@ -146,10 +145,7 @@ noted-from : (room : ℕ) (F : List Line) (l : ℕ) (sizes : List ℕ) → l ≤
     → noted room F l sizes ≡ take l sizes ++ (sizesOf (take (room - l) F) ++ drop (l + length (take (room - l) F)) sizes)
 noted-from room [] l sizes h fits =
     let e : _≡_ {A = List Line} (take (room - l) []) [] = take-nil (room - l) in
-    rw e (sym (ap (λ (x : ℕ). take l sizes ++ drop x sizes) (plus-zero l) ∙ take-append-drop l sizes))
-  where
-    plus-zero : (l : ℕ) → l + 0 ≡ l
-    plus-zero l = omega arith
+    rw e (sym (ap (λ (x : ℕ). take l sizes ++ drop x sizes) (add-zero l) ∙ take-append-drop l sizes))
 noted-from room (v ∷ F) l sizes h fits = go (decLt l room) (λ z a b. noted-from room F (l + 1) z a b)
   where
     go : Dec (l < room)
@@ -159,10 +155,7 @@ noted-from room (v ∷ F) l sizes h fits = go (decLt l room) (λ z a b. noted-fr
         let e : room - l ≡ 0 = omega arith in
         noted-full room (v ∷ F) l sizes (omega arith)
         ∙ sym (ap (λ (x : ℕ). take l sizes ++ (sizesOf (take x (v ∷ F)) ++ drop (l + length (take x (v ∷ F))) sizes)) e
-        ∙ ap (λ (x : ℕ). take l sizes ++ drop x sizes) (plus-zero l) ∙ take-append-drop l sizes)
-      where
-        plus-zero : (l : ℕ) → l + 0 ≡ l
-        plus-zero l = omega arith
+        ∙ ap (λ (x : ℕ). take l sizes ++ drop x sizes) (add-zero l) ∙ take-append-drop l sizes)
     go (yes lt) next =
         let z : List ℕ = set sizes l (v .size) in
         let ih = next z (omega arith) (simp length-set fits) in
@@ -177,7 +170,7 @@ noted-from room (v ∷ F) l sizes h fits = go (decLt l room) (λ z a b. noted-fr
         ∙ ap (λ (x : ℕ). take l sizes ++ (v .size ∷ (sizesOf G ++ drop x sizes))) cnt
         ∙ sym (ap (λ (x : ℕ). take l sizes ++ (sizesOf (take x (v ∷ F)) ++ drop (l + length (take x (v ∷ F))) sizes)) r))
 
--- ---- from the start, in the words of the listing
+-- ---- in the words of the listing
 
 flat-length : (n : ℕ) (F : List Line) → AllWhole n F → length (flat (rowsOf F)) ≡ length F * n
 flat-length n [] long = omega arith
@@ -195,26 +188,20 @@ written-is n room F rows long fits =
     let e : room - 0 ≡ room = omega arith in
     let z : 0 * n ≡ 0 = omega arith in
     let f : (0 + length (take room F)) * n ≡ length (flat (rowsOf (take room F))) =
-    ap (λ (x : ℕ). x * n) (zero-plus (length (take room F))) ∙ sym (flat-length n (take room F) (λ v m. long v (take-mem room F v m))) in
+    ap (λ (x : ℕ). x * n) (zero-add (length (take room F))) ∙ sym (flat-length n (take room F) (λ v m. long v (take-mem room F v m))) in
     written-from n room F 0 rows long (omega arith) fits
     ∙ ap₂ (λ (x y : ℕ). take y rows ++ (flat (rowsOf (take x F)) ++ drop ((0 + length (take x F)) * n) rows)) e z
     ∙ ap (λ (x : ℕ). flat (rowsOf (take room F)) ++ drop x rows) f
-  where
-    zero-plus : (x : ℕ) → 0 + x ≡ x
-    zero-plus x = omega arith
 
 noted-is : (room : ℕ) (F : List Line) (sizes : List ℕ) → room ≤ length sizes → noted room F 0 sizes ≡ over (sizesOf (take room F)) sizes
 noted-is room F sizes fits =
     let e : room - 0 ≡ room = omega arith in
-    let f : 0 + length (take room F) ≡ length (sizesOf (take room F)) = zero-plus (length (take room F)) ∙ sym (length-map (take room F) (λ (l : Line). l .size)) in
+    let f : 0 + length (take room F) ≡ length (sizesOf (take room F)) = zero-add (length (take room F)) ∙ sym (length-map (take room F) (λ (l : Line). l .size)) in
     noted-from room F 0 sizes (omega arith) fits
     ∙ ap (λ (x : ℕ). sizesOf (take x F) ++ drop (0 + length (take x F)) sizes) e
     ∙ ap (λ (x : ℕ). sizesOf (take room F) ++ drop x sizes) f
-  where
-    zero-plus : (x : ℕ) → 0 + x ≡ x
-    zero-plus x = omega arith
 
--- ---- a run of all visits from the start, in the words of the listing
+-- ---- a run from the empty state
 
 module _ (z : Limits) (vs : List Line) (rows sizes : List ℕ) where
   abbrev plans : List Line

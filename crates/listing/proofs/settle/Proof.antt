@@ -1,7 +1,7 @@
 -- `settle` answers what the search left. Each of the three ways through the code is one of the three cases of `settled`.
 use borrow.Author.Needs.{needs}
 use denote.Ref.{now}
-use Rattle.search.specs.Search.{stateOf}
+use Rattle.last.specs.Last.{stateOf}
 use Rattle.listing.specs.Settling.{settled-over, settled-crowded, settled-fits}
 use Rattle.listing.proofs.settle.Statement.{statement}
 use Rattle.listing.proofs.settle.Tie as tie
