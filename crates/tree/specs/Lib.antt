@@ -7,6 +7,7 @@
 --   Rows      a carrier is put into a row
 --   Budgets   what class sizes may add up to
 --   Joins     what is in joined visits, and that they ascend
+--   Growing   what is needed of the group
 --   OnSheet   the weight of a sheet, and that the tables which serve it have it
 --   Openings  the visits by that weight are a walk
 --   Wholes    the plans among the rows of a walk are the listing
@@ -18,6 +19,7 @@ pub mod Runs
 pub mod Rows
 pub mod Budgets
 pub mod Joins
+pub mod Growing
 pub mod OnSheet
 pub mod Openings
 pub mod Wholes
