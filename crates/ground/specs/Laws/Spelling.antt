@@ -14,7 +14,7 @@ use lib.Dec.{leb, eqb}
 use lib.ListN.{length, getD, take, drop, take-append-drop}
 use lib.Seq.{drop-drop, drop-cons, drop-length}
 use borrow.Author.Tests.{leb-true, eqb-true}
-use Rattle.ground.specs.Meanings.Sheet.{got, refused, Reading, andThen, field, checked, byte, two, Pair, many, count, carrier, riser, Rule, allowedPair, ruleThat, rule, swap, nothingMore, Sheet, jobSheet, listedIn, allowedBy, most-carriers, most-risers, most-rules, most-pairs, most-swaps}
+use Rattle.ground.specs.Meanings.Sheet.{sheet-ends, rule-not-kept, list-not-kept, no-permutation, bytes-follow, fault, got, refused, Reading, andThen, field, checked, byte, two, Pair, many, count, carrier, riser, Rule, allowedPair, ruleThat, rule, swap, nothingMore, Sheet, jobSheet, listedIn, allowedBy, most-carriers, most-risers, most-rules, most-pairs, most-swaps}
 use Rattle.ground.specs.Laws.Reading.{andThen-got, byte-in, two-in, checked-passed, many-length}
 use Rattle.ground.specs.Laws.Sections.{whole, last, from-swaps, from-rules, from-risers}
 
@@ -55,7 +55,7 @@ field-spells : (w : ℕ) → Spells (field w) (λ (l : List ℕ). l)
 unfolding field
 field-spells w s at x p e = go (leb (at + w) (length s)) e
   where
-    go : (b : Bool) → cond b (got (take w (drop at s)) (at + w)) (refused 1 at) ≡ got x p → drop at s ≡ x ++ drop p s
+    go : (b : Bool) → cond b (got (take w (drop at s)) (at + w)) (refused (fault sheet-ends at)) ≡ got x p → drop at s ≡ x ++ drop p s
     go true f = let y : take w (drop at s) ≡ x = cc in let q : at + w ≡ p = cc in rw (← y, ← q) (sym (take-append-drop w (drop at s)) ∙ ap (λ (t : List ℕ). take w (drop at s) ++ t) (drop-drop w at s))
     go false f = absurd (let b : _≡_ {A = ℕ} 0 1 = cc in omega arith)
 
@@ -66,7 +66,7 @@ pub field-length : (w : ℕ) (s : List ℕ) (at : ℕ) (x : List ℕ) (p : ℕ) 
 unfolding field
 field-length w s at x p e = go (leb (at + w) (length s)) refl e
   where
-    go : (b : Bool) → leb (at + w) (length s) ≡ b → cond b (got (take w (drop at s)) (at + w)) (refused 1 at) ≡ got x p → at + w ≤ length s
+    go : (b : Bool) → leb (at + w) (length s) ≡ b → cond b (got (take w (drop at s)) (at + w)) (refused (fault sheet-ends at)) ≡ got x p → at + w ≤ length s
     go true h f = leb-true (at + w) (length s) h
     go false h f = absurd (let b : _≡_ {A = ℕ} 0 1 = cc in omega arith)
 
@@ -141,13 +141,13 @@ rule-spells n listed done s at x p e =
 
 swap-spells : (k n m : ℕ) (listed : ℕ → ℕ → Bool) (allows : ℕ → ℕ → ℕ → Bool) (done : List (List ℕ)) → Spells (swap k n m listed allows done) (λ (g : List ℕ). g)
 unfolding swap
-swap-spells k n m listed allows done = checked-spells 8 _ _ (λ (g : List ℕ). g) (checked-spells 7 _ _ (λ (g : List ℕ). g) (checked-spells 6 _ (field k) (λ (g : List ℕ). g) (field-spells k)))
+swap-spells k n m listed allows done = checked-spells rule-not-kept _ _ (λ (g : List ℕ). g) (checked-spells list-not-kept _ _ (λ (g : List ℕ). g) (checked-spells no-permutation _ (field k) (λ (g : List ℕ). g) (field-spells k)))
 
 pub more-spells : (s : List ℕ) (at : ℕ) (x : Unit) (p : ℕ) → nothingMore s at ≡ got x p → (at ≡ length s) × (p ≡ at)
 unfolding nothingMore
 more-spells s at x p e = go (eqb at (length s)) refl e
   where
-    go : (b : Bool) → eqb at (length s) ≡ b → cond b (got tt at) (refused 9 at) ≡ got x p → (at ≡ length s) × (p ≡ at)
+    go : (b : Bool) → eqb at (length s) ≡ b → cond b (got tt at) (refused (fault bytes-follow at)) ≡ got x p → (at ≡ length s) × (p ≡ at)
     go true h f = (eqb-true at (length s) h, (let q : at ≡ p = cc in sym q))
     go false h f = absurd (let b : _≡_ {A = ℕ} 0 1 = cc in omega arith)
 

@@ -15,7 +15,7 @@ use lib.Dec.{ltb, leb}
 use lib.ListN.{length, take, drop, length-append, length-drop}
 use lib.Seq.{drop-drop, drop-append-seam, take-at, length-take-le}
 use borrow.Author.Tests.{eq-eqb, leb-true}
-use Rattle.ground.specs.Meanings.Sheet.{got, refused, Reading, andThen, field, checked, byte, two, Pair, many, count, carrier, riser, Rule, allowedPair, ruleThat, rule, swap, nothingMore, Sheet, jobSheet, listedIn, allowedBy, after, before, allNew, keepsLists, keepsRules, most-carriers, most-risers, most-rules, most-pairs, most-swaps}
+use Rattle.ground.specs.Meanings.Sheet.{sheet-ends, fault, got, refused, Reading, andThen, field, checked, byte, two, Pair, many, count, carrier, riser, Rule, allowedPair, ruleThat, rule, swap, nothingMore, Sheet, jobSheet, listedIn, allowedBy, after, before, allNew, keepsLists, keepsRules, most-carriers, most-risers, most-rules, most-pairs, most-swaps}
 use Rattle.ground.specs.Laws.Reading.{and-left, andThen-got, field-in, checked-got, checked-passed}
 use Rattle.ground.specs.Laws.Spelling.{each-written, writeList, writePair, writeRule, written, tail-swaps, tail-rules, tail-risers, got-same, many-count, singles, one-spelling}
 use Rattle.ground.specs.Laws.Sections.{whole, last, from-swaps, from-rules, from-risers}
@@ -227,7 +227,7 @@ field-gives : (w : ℕ) → Gives (field w) (λ (l : List ℕ). length l ≡ w)
 unfolding field
 field-gives w s at x p e = go (leb (at + w) (length s)) refl e
   where
-    go : (b : Bool) → leb (at + w) (length s) ≡ b → cond b (got (take w (drop at s)) (at + w)) (refused 1 at) ≡ got x p → length x ≡ w
+    go : (b : Bool) → leb (at + w) (length s) ≡ b → cond b (got (take w (drop at s)) (at + w)) (refused (fault sheet-ends at)) ≡ got x p → length x ≡ w
     go true h f = ap (λ (l : List ℕ). length l) (sym (got-same f)) ∙ length-take-le w (drop at s) (let d = length-drop at s in let r = leb-true (at + w) (length s) h in omega arith)
     go false h f = absurd (let b : _≡_ {A = ℕ} 0 1 = cc in omega arith)
 
