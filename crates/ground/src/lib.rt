@@ -2,6 +2,9 @@
 // a refusal tells. The definitions' own names for them are in specs/Meanings/Sheet.antt; everything else in this crate is definitions and
 // laws, under specs/.
 
+ghost use mathlib.Core.Path.{_≡_};
+ghost use Rattle.ground.specs.Meanings.Sheet.{fault, noFault};
+
 // The most carriers a rack has, and so the width of a swap.
 pub const CARRIERS: usize = 15;
 
@@ -33,6 +36,25 @@ pub const ENDS: usize = RISERS * RISERS;
 pub struct Fault {
     pub number: u8,
     pub place: usize,
+}
+
+impl Fault {
+    // What the refusal by a number tells, at a place.
+    pub fn of(number: u8, place: usize) -> Fault
+        ensures { λ r. ⌜ r ≡ fault number place ⌝ }
+    {
+        Fault { number, place }
+    }
+
+    // What an accepted answer has in its stead.
+    pub fn none() -> Fault
+        ensures { λ r. ⌜ r ≡ noFault ⌝ }
+    {
+        Fault {
+            number: ACCEPTED,
+            place: 0,
+        }
+    }
 }
 
 // There is no refusal.
