@@ -21,15 +21,15 @@ use Rattle.fields.specs.Answers.{tellNumber, tellTwo, number-got}
 -- ---- one number
 
 module _ (s : List ℕ) (p least bound q : ℕ) where
-  pub number-short : {f : Fault} → f ≡ fault sheet-ends p → length s ≤ p → Number.Refused f ≡ tellNumber (numberFrom least bound q s p)
-  number-short e h = ap Number.Refused e ∙ ap tellNumber (sym (checked-refused q _ byte s p (byte-out s p h)))
+  pub number-short : {f : Fault} → length s ≤ p → f ≡ fault sheet-ends p → Number.Refused f ≡ tellNumber (numberFrom least bound q s p)
+  number-short h e = ap Number.Refused e ∙ ap tellNumber (sym (checked-refused q _ byte s p (byte-out s p h)))
 
   module _ (l : p < length s) where
-    pub number-low : {f : Fault} → f ≡ fault q p → getD s p 0 < least → Number.Refused f ≡ tellNumber (numberFrom least bound q s p)
-    number-low e h = ap Number.Refused e ∙ ap tellNumber (sym (checked-bad q _ byte s p (byte-in s p l) (rw (lt-leb _ _ h))))
+    pub number-low : {f : Fault} → getD s p 0 < least → f ≡ fault q p → Number.Refused f ≡ tellNumber (numberFrom least bound q s p)
+    number-low h e = ap Number.Refused e ∙ ap tellNumber (sym (checked-bad q _ byte s p (byte-in s p l) (rw (lt-leb _ _ h))))
 
-    pub number-high : {f : Fault} → f ≡ fault q p → least ≤ getD s p 0 → bound ≤ getD s p 0 → Number.Refused f ≡ tellNumber (numberFrom least bound q s p)
-    number-high e h g = ap Number.Refused e ∙ ap tellNumber (sym (checked-bad q _ byte s p (byte-in s p l) (rw (le-leb _ _ h, le-ltb _ _ g))))
+    pub number-high : {f : Fault} → least ≤ getD s p 0 → bound ≤ getD s p 0 → f ≡ fault q p → Number.Refused f ≡ tellNumber (numberFrom least bound q s p)
+    number-high h g e = ap Number.Refused e ∙ ap tellNumber (sym (checked-bad q _ byte s p (byte-in s p l) (rw (le-leb _ _ h, le-ltb _ _ g))))
 
     pub number-is : least ≤ getD s p 0 → getD s p 0 < bound → Number.Read (getD s p 0) (p + 1) ≡ tellNumber (numberFrom least bound q s p)
     number-is h g = ap tellNumber (sym (checked-got q _ byte s p (byte-in s p l) (rw (le-leb _ _ h, lt-ltb _ _ g))))
@@ -47,8 +47,8 @@ count-most s p least most {c} e = let h : c < most + 1 = number-bound s p least 
 
 -- ---- two bytes
 
-pub two-short : (s : List ℕ) (p : ℕ) {f : Fault} → f ≡ fault sheet-ends p → length s ≤ p + 1 → Two.Refused f ≡ tellTwo (two s p)
-two-short s p e h = ap Two.Refused e ∙ ap tellTwo (sym (two-out s p h))
+pub two-short : (s : List ℕ) (p : ℕ) {f : Fault} → length s ≤ p + 1 → f ≡ fault sheet-ends p → Two.Refused f ≡ tellTwo (two s p)
+two-short s p h e = ap Two.Refused e ∙ ap tellTwo (sym (two-out s p h))
 
 pub two-is : (s : List ℕ) (p : ℕ) → p + 1 < length s → Two.Read (getD s p 0) (getD s (p + 1) 0) (p + 1 + 1) ≡ tellTwo (two s p)
 two-is s p h = let n : p + 1 + 1 ≡ p + 2 = omega arith in rw n (ap tellTwo (sym (two-in s p h)))

@@ -10,7 +10,7 @@ of-requires : tie.Need-of-requires
 of-requires c κs = search needs
 
 returns : tie.Need-returns
-returns c = number-short _ _ _ _ _ (c .of .ensures) (c .before .if1 .taken)
+returns c = number-short _ _ _ _ _ (c .before .if1 .taken) (c .of .ensures)
 
 shared-slice-read-value : tie.Need-shared-slice-read-value
 shared-slice-read-value c = search needs
@@ -22,13 +22,13 @@ of-requires-2 : tie.Need-of-requires-2
 of-requires-2 c κs = search needs
 
 returns-2 : tie.Need-returns-2
-returns-2 c = number-low _ _ _ _ _ (c .before .before .before .if1 .left) (c .of2 .ensures) (c .before .if2 .taken)
+returns-2 c = number-low _ _ _ _ _ (c .before .before .before .if1 .left) (c .before .if2 .taken) (c .of2 .ensures)
 
 of-requires-3 : tie.Need-of-requires-3
 of-requires-3 c κs = search needs
 
 returns-3 : tie.Need-returns-3
-returns-3 c = number-high _ _ _ _ _ (c .before .before .before .before .if1 .left) (c .of3 .ensures) (c .before .before .if2 .left) (c .before .if3 .taken)
+returns-3 c = number-high _ _ _ _ _ (c .before .before .before .before .if1 .left) (c .before .before .if2 .left) (c .before .if3 .taken) (c .of3 .ensures)
 
 add-next : tie.Need-add-next
 add-next c = search needs

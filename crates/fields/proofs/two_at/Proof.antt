@@ -11,7 +11,7 @@ of-requires : tie.Need-of-requires
 of-requires c κs = search needs
 
 returns : tie.Need-returns
-returns c = two-short _ _ (c .of .ensures) (omega arith)
+returns c = two-short _ _ (omega arith) (c .of .ensures)
 
 add-second : tie.Need-add-second
 add-second c = search needs
@@ -35,7 +35,7 @@ add-next : tie.Need-add-next
 add-next c = search needs
 
 returns-2 : tie.Need-returns-2
-returns-2 c = two-short _ _ (c .of2 .ensures) (c .before .if2 .taken)
+returns-2 c = two-short _ _ (c .before .if2 .taken) (c .of2 .ensures)
 
 returns-3 : tie.Need-returns-3
 returns-3 c = two-is _ _ (c .before .before .if2 .left)
