@@ -7,7 +7,7 @@ use Rattle.fields.proofs.number_at.Statement.{statement}
 use Rattle.fields.proofs.number_at.Tie as tie
 
 of-requires : tie.Need-of-requires
-of-requires c κs = search needs
+of-requires c κs = tt
 
 returns : tie.Need-returns
 returns c = number-short _ _ _ _ _ (c .before .if1 .taken) (c .of .ensures)
@@ -19,13 +19,13 @@ cast-value : tie.Need-cast-value
 cast-value c = omega (arith, c .shared-slice-known2 .given (c .before .before .before .args .at))
 
 of-requires-2 : tie.Need-of-requires-2
-of-requires-2 c κs = search needs
+of-requires-2 c κs = tt
 
 returns-2 : tie.Need-returns-2
 returns-2 c = number-low _ _ _ _ _ (c .before .before .before .if1 .left) (c .before .if2 .taken) (c .of2 .ensures)
 
 of-requires-3 : tie.Need-of-requires-3
-of-requires-3 c κs = search needs
+of-requires-3 c κs = tt
 
 returns-3 : tie.Need-returns-3
 returns-3 c = number-high _ _ _ _ _ (c .before .before .before .before .if1 .left) (c .before .before .if2 .left) (c .before .if3 .taken) (c .of3 .ensures)

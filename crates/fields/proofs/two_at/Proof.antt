@@ -8,7 +8,7 @@ use Rattle.fields.proofs.two_at.Statement.{statement}
 use Rattle.fields.proofs.two_at.Tie as tie
 
 of-requires : tie.Need-of-requires
-of-requires c κs = search needs
+of-requires c κs = tt
 
 returns : tie.Need-returns
 returns c = two-short _ _ (omega arith) (c .of .ensures)
@@ -17,7 +17,7 @@ add-second : tie.Need-add-second
 add-second c = search needs
 
 of-requires-2 : tie.Need-of-requires-2
-of-requires-2 c κs = search needs
+of-requires-2 c κs = tt
 
 shared-slice-read-left : tie.Need-shared-slice-read-left
 shared-slice-read-left c = search needs

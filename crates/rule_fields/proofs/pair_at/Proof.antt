@@ -30,7 +30,7 @@ add-key : tie.Need-add-key
 add-key c = let h = listed-small _ _ _ (sym (c .before .before .before .is-listed .ensures) ∙ c .before .before .if1 .taken) in let g = listed-small _ _ _ (sym (c .before .is-listed2 .ensures) ∙ c .if2 .taken) in omega arith
 
 of-requires : tie.Need-of-requires
-of-requires c κs = search needs
+of-requires c κs = tt
 
 returns : tie.Need-returns
 returns c = pair-early _ _ _ _ _ (sym (c .before .before .before .before .before .before .before .u .given .1) ∙ c .before .before .before .before .before .before .before .before .before .two-at .ensures) (both-yes _ _ _ _ _ (sym (c .before .before .before .before .before .is-listed .ensures) ∙ c .before .before .before .before .if1 .taken) (sym (c .before .before .before .is-listed2 .ensures) ∙ c .before .before .if2 .taken)) (c .before .if3 .taken) (c .of .ensures)
@@ -39,7 +39,7 @@ returns-2 : tie.Need-returns-2
 returns-2 c = pair-is _ _ _ _ _ (sym (c .before .before .before .before .before .before .u .given .1) ∙ c .before .before .before .before .before .before .before .before .two-at .ensures) (both-yes _ _ _ _ _ (sym (c .before .before .before .before .is-listed .ensures) ∙ c .before .before .before .if1 .taken) (sym (c .before .before .is-listed2 .ensures) ∙ c .before .if2 .taken)) (c .if3 .left)
 
 of-requires-2 : tie.Need-of-requires-2
-of-requires-2 c κs = search needs
+of-requires-2 c κs = tt
 
 returns-3 : tie.Need-returns-3
 returns-3 c = pair-fails _ _ _ _ _ (sym (c .before .before .before .before .before .before .u .given .1) ∙ c .before .before .before .before .before .before .before .before .two-at .ensures) (both-no-right _ _ _ _ _ (sym (c .before .before .before .before .is-listed .ensures) ∙ c .before .before .before .if1 .taken) (sym (c .before .before .is-listed2 .ensures) ∙ c .before .if2 .left)) (c .of2 .ensures)
@@ -48,7 +48,7 @@ returns-4 : tie.Need-returns-4
 returns-4 c = pair-short _ _ _ _ _ (sym (c .before .fault .given .1) ∙ c .before .before .before .two-at .ensures)
 
 of-requires-3 : tie.Need-of-requires-3
-of-requires-3 c κs = search needs
+of-requires-3 c κs = tt
 
 returns-5 : tie.Need-returns-5
 returns-5 c = pair-fails _ _ _ _ _ (sym (c .before .before .before .before .u .given .1) ∙ c .before .before .before .before .before .before .two-at .ensures) (both-no-left _ _ _ _ _ (sym (c .before .before .is-listed .ensures) ∙ c .before .if1 .left)) (c .of3 .ensures)

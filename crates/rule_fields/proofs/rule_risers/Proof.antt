@@ -16,13 +16,13 @@ enum-known-a : tie.Need-enum-known-a
 enum-known-a c = search needs
 
 of-requires : tie.Need-of-requires
-of-requires c κs = search needs
+of-requires c κs = tt
 
 returns : tie.Need-returns
 returns c = pair-fails _ _ _ _ _ (sym (c .before .before .before .a .given .1) ∙ c .before .before .before .before .before .two-at .ensures) (ordered-no-left _ _ _ (c .before .if1 .taken)) (c .of .ensures)
 
 of-requires-2 : tie.Need-of-requires-2
-of-requires-2 c κs = search needs
+of-requires-2 c κs = tt
 
 returns-2 : tie.Need-returns-2
 returns-2 c = pair-fails _ _ _ _ _ (sym (c .before .before .before .before .a .given .1) ∙ c .before .before .before .before .before .before .two-at .ensures) (ordered-no-right _ _ _ (c .before .before .if1 .left) (c .before .if2 .taken)) (c .of2 .ensures)
@@ -34,7 +34,7 @@ add-key : tie.Need-add-key
 add-key c = search needs
 
 of-requires-3 : tie.Need-of-requires-3
-of-requires-3 c κs = search needs
+of-requires-3 c κs = tt
 
 returns-3 : tie.Need-returns-3
 returns-3 c = pair-early _ _ _ _ _ (sym (c .before .before .before .before .before .a .given .1) ∙ c .before .before .before .before .before .before .before .two-at .ensures) (ordered-yes _ _ _ (c .before .before .before .if1 .left) (c .before .before .if2 .left)) (c .before .if3 .taken) (c .of3 .ensures)

@@ -29,7 +29,7 @@ enum-told-4 : tie.Need-enum-told-4
 enum-told-4 c = search needs
 
 of-requires : tie.Need-of-requires
-of-requires c κs = search needs
+of-requires c κs = tt
 
 returns-2 : tie.Need-returns-2
 returns-2 c = whole-more _ _ (c .before .before .before .found .given .1) (c .before .if1 .left) (c .of .ensures)
@@ -38,25 +38,25 @@ returns-3 : tie.Need-returns-3
 returns-3 c = ap (wholeAt _ _) (sym (c .before .found2 .given .1))
 
 of-requires-2 : tie.Need-of-requires-2
-of-requires-2 c κs = search needs
+of-requires-2 c κs = tt
 
 returns-4 : tie.Need-returns-4
 returns-4 c = ap Head.Refused (c .of2 .ensures) ∙ ap (wholeAt _ _) (sym (c .before .enum-told .given .1))
 
 of-requires-3 : tie.Need-of-requires-3
-of-requires-3 c κs = search needs
+of-requires-3 c κs = tt
 
 returns-5 : tie.Need-returns-5
 returns-5 c = ap Head.Refused (c .of3 .ensures) ∙ ap (wholeAt _ _) (sym (c .before .enum-told2 .given .1))
 
 of-requires-4 : tie.Need-of-requires-4
-of-requires-4 c κs = search needs
+of-requires-4 c κs = tt
 
 returns-6 : tie.Need-returns-6
 returns-6 c = ap Head.Refused (c .of4 .ensures) ∙ ap (wholeAt _ _) (sym (c .before .enum-told3 .given .1))
 
 of-requires-5 : tie.Need-of-requires-5
-of-requires-5 c κs = search needs
+of-requires-5 c κs = tt
 
 returns-7 : tie.Need-returns-7
 returns-7 c = ap Head.Refused (c .of5 .ensures) ∙ ap (wholeAt _ _) (sym (c .before .enum-told4 .given .1))

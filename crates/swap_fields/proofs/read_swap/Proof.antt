@@ -10,7 +10,7 @@ use Rattle.swap_fields.proofs.read_swap.Statement.{statement}
 use Rattle.swap_fields.proofs.read_swap.Tie as tie
 
 of-requires : tie.Need-of-requires
-of-requires c κs = search needs
+of-requires c κs = tt
 
 returns : tie.Need-returns
 returns c = swap-short _ _ _ _ _ _ _ (let h = c .before .if1 .taken in omega arith) (c .of .ensures)
@@ -19,7 +19,7 @@ sub-if2 : tie.Need-sub-if2
 sub-if2 c = search needs
 
 of-requires-2 : tie.Need-of-requires-2
-of-requires-2 c κs = search needs
+of-requires-2 c κs = tt
 
 returns-2 : tie.Need-returns-2
 returns-2 c = swap-short _ _ _ _ _ _ _ (let h = c .before .if2 .taken in let g = c .before .before .if1 .left in omega arith) (c .of2 .ensures)
@@ -40,7 +40,7 @@ is-permutation-requires : tie.Need-is-permutation-requires
 is-permutation-requires c κs = search needs
 
 of-requires-3 : tie.Need-of-requires-3
-of-requires-3 c κs = search needs
+of-requires-3 c κs = tt
 
 returns-3 : tie.Need-returns-3
 returns-3 c = swap-6 _ _ _ _ _ _ _ (let h = c .before .before .before .before .if2 .left in let g = c .before .before .before .before .before .if1 .left in omega arith) (c .before .before .before .before .before .before .before .pre .0) (sym (six-is _ _ _ (let h = c .before .before .before .before .if2 .left in let g = c .before .before .before .before .before .if1 .left in omega arith) (c .before .before .before .before .before .before .before .pre .0) _ (c .before .before .is-permutation .ensures)) ∙ not-true _ (c .before .if3 .taken)) (c .of3 .ensures)
@@ -52,7 +52,7 @@ first-riser-out-requires : tie.Need-first-riser-out-requires
 first-riser-out-requires c κs = search needs
 
 of-requires-4 : tie.Need-of-requires-4
-of-requires-4 c κs = search needs
+of-requires-4 c κs = tt
 
 returns-4 : tie.Need-returns-4
 returns-4 c = swap-7 _ _ _ _ _ _ _ (let h = c .before .before .before .before .before .before .before .if2 .left in let g = c .before .before .before .before .before .before .before .before .if1 .left in omega arith) (c .before .before .before .before .before .before .before .before .before .before .pre .0) (sym (six-is _ _ _ (let h = c .before .before .before .before .before .before .before .if2 .left in let g = c .before .before .before .before .before .before .before .before .if1 .left in omega arith) (c .before .before .before .before .before .before .before .before .before .before .pre .0) _ (c .before .before .before .before .before .is-permutation .ensures)) ∙ not-false _ (c .before .before .before .before .if3 .left)) _ (c .before .before .before .padded-swap .ensures) (each-no _ _ _ (c .before .before .first-riser-out .ensures) (c .before .if4 .taken)) (c .of4 .ensures)
@@ -61,7 +61,7 @@ first-rule-out-requires : tie.Need-first-rule-out-requires
 first-rule-out-requires c κs = search needs
 
 of-requires-5 : tie.Need-of-requires-5
-of-requires-5 c κs = search needs
+of-requires-5 c κs = tt
 
 returns-5 : tie.Need-returns-5
 returns-5 c = swap-8 _ _ _ _ _ _ _ (let h = c .before .before .before .before .before .before .before .before .before .if2 .left in let g = c .before .before .before .before .before .before .before .before .before .before .if1 .left in omega arith) (c .before .before .before .before .before .before .before .before .before .before .before .before .pre .0) (sym (six-is _ _ _ (let h = c .before .before .before .before .before .before .before .before .before .if2 .left in let g = c .before .before .before .before .before .before .before .before .before .before .if1 .left in omega arith) (c .before .before .before .before .before .before .before .before .before .before .before .before .pre .0) _ (c .before .before .before .before .before .before .before .is-permutation .ensures)) ∙ not-false _ (c .before .before .before .before .before .before .if3 .left)) _ (c .before .before .before .before .before .padded-swap .ensures) (each-yes _ _ _ (c .before .before .before .before .first-riser-out .ensures) (c .before .before .before .if4 .left)) (each-no _ _ _ (c .before .before .first-rule-out .ensures) (c .before .if5 .taken)) (c .of5 .ensures)
