@@ -10,6 +10,7 @@ use mathlib.Core.List.{List, [], _∷_, _++_}
 use Prim.Native.Nat.{ℕ, suc, _+_, _<_, _≤_}
 use native.Mathlib.Omega.{arith}
 use lib.ListN.{length}
+use Rattle.ground.specs.declared.Fault.{Fault}
 use Rattle.ground.specs.Meanings.Sheet.{got, refused, Reading, many}
 use Rattle.ground.specs.Laws.Reading.{Walk, walk-starts, walk-more, walk-refused, walk-ends}
 use Rattle.fields.specs.declared.Section.{Section}
@@ -37,7 +38,7 @@ module _ {S A : Type 0} (one : List A → Reading A) (put : S → ℕ → A → 
       table = ap (λ (y : S). put y i x) (v .table) ∙ ap (λ (j : ℕ). put (putAll put t₀ 0 done) j x) (let h = v .walk .so-far in omega arith) ∙ sym (put-snoc put t₀ 0 done x);
     }
 
-    pub filling-refused : {P : List A → Type 0} {q r : ℕ} → i < n → one done s p ≡ refused q r → Answers tellSection (many one n [] s from) (Section.Refused q r) P
+    pub filling-refused : {P : List A → Type 0} {f : Fault} → i < n → one done s p ≡ refused f → Answers tellSection (many one n [] s from) (Section.Refused f) P
     filling-refused l e = answer-refused tellSection (walk-refused one n s from (v .walk) l e)
 
     pub filling-ends : n ≤ i → Answers tellSection (many one n [] s from) (Section.Read p) (λ (l : List A). t ≡ putAll put t₀ 0 l)

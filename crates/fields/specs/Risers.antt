@@ -15,7 +15,8 @@ use lib.Dec.{ltb, leb, eqb}
 use lib.ListN.{set}
 use borrow.Author.Tests.{lt-ltb, le-ltb, le-leb, ltb-true}
 use Rattle.ground.specs.Meanings.Group.{at}
-use Rattle.ground.specs.Meanings.Sheet.{Outcome, byte, many, carrier, riser, count, after, most-carriers, most-risers}
+use Rattle.ground.specs.declared.Fault.{Fault}
+use Rattle.ground.specs.Meanings.Sheet.{wrong-carrier, Outcome, byte, many, carrier, riser, count, after, most-carriers, most-risers}
 use Rattle.ground.specs.Laws.Reading.{checked-same, and-left, and-right}
 use Rattle.fields.specs.declared.Section.{Section}
 use Rattle.fields.specs.declared.Number.{Number}
@@ -40,9 +41,9 @@ pub record ListSoFar (s : List ℕ) (from k d r : ℕ) (T₀ T : List ℕ) (p le
   pub filling : Filling (carrier k) (putCarrier r) d s from T₀ T p i done
   pub lower : Above least done
 
-carrier-is : (k : ℕ) (done : List ℕ) (s : List ℕ) (p least : ℕ) → Above least done → carrier k done s p ≡ numberFrom least k 3 s p
+carrier-is : (k : ℕ) (done : List ℕ) (s : List ℕ) (p least : ℕ) → Above least done → carrier k done s p ≡ numberFrom least k wrong-carrier s p
 unfolding carrier
-carrier-is k done s p least h = checked-same 3 _ _ byte s p (λ c. ap (λ (b : Bool). b && ltb c k) (h c))
+carrier-is k done s p least h = checked-same wrong-carrier _ _ byte s p (λ c. ap (λ (b : Bool). b && ltb c k) (h c))
 
 module _ (s : List ℕ) (from k d r : ℕ) (T₀ : List ℕ) where
   pub list-starts : ListSoFar s from k d r T₀ T₀ from 0 0
@@ -50,15 +51,15 @@ module _ (s : List ℕ) (from k d r : ℕ) (T₀ : List ℕ) where
   list-starts = record { done = []; filling = filling-starts (carrier k) (putCarrier r) d s from T₀; lower = λ c. sym (le-leb 0 c (omega arith)) }
 
   module _ (T : List ℕ) (p least i : ℕ) (v : ListSoFar s from k d r T₀ T p least i) where
-    pub list-more : {c next : ℕ} → i < d → Number.Read c next ≡ tellNumber (numberFrom least k 3 s p) → ListSoFar s from k d r T₀ (set T (r * most-carriers + c) 1) next (c + 1) (i + 1)
+    pub list-more : {c next : ℕ} → i < d → Number.Read c next ≡ tellNumber (numberFrom least k wrong-carrier s p) → ListSoFar s from k d r T₀ (set T (r * most-carriers + c) 1) next (c + 1) (i + 1)
     list-more {c} {next} l e = record {
       done = v .done ++ (c ∷ []);
-      filling = filling-more (carrier k) (putCarrier r) d s from T₀ (v .filling) l (carrier-is k (v .done) s p least (v .lower) ∙ number-got (numberFrom least k 3 s p) e);
+      filling = filling-more (carrier k) (putCarrier r) d s from T₀ (v .filling) l (carrier-is k (v .done) s p least (v .lower) ∙ number-got (numberFrom least k wrong-carrier s p) e);
       lower = λ x. after-snoc ltb (v .done) c x ∙ ap (λ (j : ℕ). leb j x) (sym (add-one c));
     }
 
-    pub list-refused : {q w : ℕ} → i < d → Number.Refused q w ≡ tellNumber (numberFrom least k 3 s p) → Answers tellSection (many (carrier k) d [] s from) (Section.Refused q w) (λ (l : List ℕ). T ≡ markList T₀ r l)
-    list-refused l e = filling-refused (carrier k) (putCarrier r) d s from T₀ (v .filling) l (carrier-is k (v .done) s p least (v .lower) ∙ number-refused (numberFrom least k 3 s p) e)
+    pub list-refused : {f : Fault} → i < d → Number.Refused f ≡ tellNumber (numberFrom least k wrong-carrier s p) → Answers tellSection (many (carrier k) d [] s from) (Section.Refused f) (λ (l : List ℕ). T ≡ markList T₀ r l)
+    list-refused l e = filling-refused (carrier k) (putCarrier r) d s from T₀ (v .filling) l (carrier-is k (v .done) s p least (v .lower) ∙ number-refused (numberFrom least k wrong-carrier s p) e)
 
     pub list-ends : d ≤ i → Answers tellSection (many (carrier k) d [] s from) (Section.Read p) (λ (l : List ℕ). T ≡ markList T₀ r l)
     list-ends l = filling-ends (carrier k) (putCarrier r) d s from T₀ (v .filling) l
@@ -66,7 +67,7 @@ module _ (s : List ℕ) (from k d r : ℕ) (T₀ : List ℕ) where
 -- ---- a riser, and all of them
 
 module _ (s : List ℕ) (p k : ℕ) where
-  pub riser-refused : {q w : ℕ} {P : List ℕ → Type 0} → Number.Refused q w ≡ tellNumber (count 1 k s p) → Answers tellSection (riser k [] s p) (Section.Refused q w) P
+  pub riser-refused : {f : Fault} {P : List ℕ → Type 0} → Number.Refused f ≡ tellNumber (count 1 k s p) → Answers tellSection (riser k [] s p) (Section.Refused f) P
   unfolding riser
   riser-refused e = answer-refused tellSection (rw (number-refused (count 1 k s p) e))
 
@@ -99,7 +100,7 @@ module _ (s : List ℕ) (from k n : ℕ) (T₀ : List ℕ) where
           filling = subst (λ (X : List ℕ). Filling (riser k) markList n s from T₀ X next (i + 1) (v .done ++ (g .0 ∷ []))) (sym (g .2)) (filling-more (riser k) markList n s from T₀ (v .filling) l (riser-any s p k (v .done) ∙ g .1));
         }
 
-    pub risers-refused : {q w : ℕ} {P : List (List ℕ) → Type 0} → r ≡ Section.Refused q w → Answers tellSection (many (riser k) n [] s from) (Section.Refused q w) P
+    pub risers-refused : {f : Fault} {P : List (List ℕ) → Type 0} → r ≡ Section.Refused f → Answers tellSection (many (riser k) n [] s from) (Section.Refused f) P
     risers-refused e = filling-refused (riser k) markList n s from T₀ (v .filling) l (riser-any s p k (v .done) ∙ section-refused a e)
 
   pub risers-end : (T : List ℕ) (p i : ℕ) → RisersSoFar s from k n T₀ T p i → n ≤ i → Answers tellSection (many (riser k) n [] s from) (Section.Read p) (λ (l : List (List ℕ)). T ≡ markLists T₀ l)

@@ -10,6 +10,7 @@ use mathlib.Core.List.{List, []}
 use Prim.Native.Nat.{ℕ, _≤_}
 use native.Mathlib.Omega.{arith}
 use lib.ListN.{length}
+use Rattle.ground.specs.declared.Fault.{Fault}
 use Rattle.ground.specs.Meanings.Sheet.{Outcome, got, refused, Reading, andThen, count, many, _>>=_}
 use Rattle.ground.specs.Laws.Reading.{andThen-got, many-length}
 use Rattle.fields.specs.declared.Section.{Section}
@@ -23,7 +24,7 @@ section least most one = do
   many one n []
 
 module _ {A : Type 0} (least most : ℕ) (one : List A → Reading A) (s : List ℕ) (p : ℕ) where
-  pub section-no-count : {P : List A → Type 0} {q w : ℕ} → Number.Refused q w ≡ tellNumber (count least most s p) → Answers tellCount (section least most one s p) (Number.Refused q w) P
+  pub section-no-count : {P : List A → Type 0} {f : Fault} → Number.Refused f ≡ tellNumber (count least most s p) → Answers tellCount (section least most one s p) (Number.Refused f) P
   unfolding section
   section-no-count e = answer-refused tellCount (rw (number-refused (count least most s p) e))
 
@@ -32,7 +33,7 @@ module _ {A : Type 0} (least most : ℕ) (one : List A → Reading A) (s : List 
   section-both e f = rw (e, f)
 
   module _ {n first : ℕ} (e : Number.Read n first ≡ tellNumber (count least most s p)) {P : List A → Type 0} {r : Section} (a : Answers tellSection (many one n [] s first) r P) where
-    pub section-no-item : {q w : ℕ} → r ≡ Section.Refused q w → Answers tellCount (section least most one s p) (Number.Refused q w) P
+    pub section-no-item : {f : Fault} → r ≡ Section.Refused f → Answers tellCount (section least most one s p) (Number.Refused f) P
     unfolding section
     section-no-item f = answer-refused tellCount (rw (number-got (count least most s p) e, section-refused a f))
 
@@ -61,8 +62,8 @@ module _ {A : Type 0} (least most : ℕ) (one : List A → Reading A) (s : List 
     where
       items : (n first : ℕ) (o : Outcome (List A)) → many one n [] s first ≡ o → andThen o (rest n) ≡ andThen o (λ l next. rest (length l) l next)
       items n first (got l next) e = let h : length l ≡ n = many-length one s n [] first l next e ∙ omega arith in ap (λ (m : ℕ). rest m l next) (sym h)
-      items n first (refused q w) e = refl
+      items n first (refused f) e = refl
 
       go : (o : Outcome ℕ) → andThen o (λ n first. andThen (many one n [] s first) (rest n)) ≡ andThen (andThen o (λ n first. many one n [] s first)) (λ l next. rest (length l) l next)
       go (got n first) = items n first (many one n [] s first) refl
-      go (refused q w) = refl
+      go (refused f) = refl

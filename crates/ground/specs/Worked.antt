@@ -11,7 +11,7 @@ use mathlib.Core.List.{List, [], _∷_, _++_, map, head-eq-of-cons-eq, tail-eq-o
 use Prim.Native.Nat.{ℕ}
 use native.Mathlib.Decide.{ℕ-discrete, decLt}
 use Rattle.ground.specs.Meanings.Group.{mul, identity}
-use Rattle.ground.specs.Meanings.Sheet.{jobSheet, count, checked, byte, two, field, many, riser, ruleThat, swap, carrier, allowedPair, nothingMore, after, isIn, isPairIn, firstFrom, allNew, keepsCarrier, keepsPair}
+use Rattle.ground.specs.Meanings.Sheet.{sheet-ends, list-not-kept, rule-not-kept, bytes-follow, opened-beyond, listed-beyond, fault, noFault, jobSheet, count, checked, byte, two, field, many, riser, ruleThat, swap, carrier, allowedPair, nothingMore, after, isIn, isPairIn, firstFrom, allNew, keepsCarrier, keepsPair}
 use Rattle.ground.specs.Meanings.Listing.{Left, left, Lists, room}
 use Rattle.ground.specs.Meanings.Folding.{Folded, folded, Folds}
 use Rattle.ground.specs.Laws.Lists.{mem?, all-or, row?}
@@ -65,29 +65,29 @@ sheetG = 2 ∷ 2 ∷ 2 ∷ 0 ∷ 1 ∷ 2 ∷ 0 ∷ 1 ∷ 1 ∷ 0 ∷ 1 ∷ 1 ∷
 abbrev pub starred : List Case
 starred =
     -- A: one row, 0 1, size 6; the rest of both lists is unchanged
-    lists sheetA 1000000 (9 ∷ 9 ∷ 9 ∷ 9 ∷ 9 ∷ []) (8 ∷ 8 ∷ []) (left 0 0 1 2 6 (0 ∷ 1 ∷ 9 ∷ 9 ∷ 9 ∷ []) (6 ∷ 8 ∷ [])) ∷
+    lists sheetA 1000000 (9 ∷ 9 ∷ 9 ∷ 9 ∷ 9 ∷ []) (8 ∷ 8 ∷ []) (left noFault 1 2 6 (0 ∷ 1 ∷ 9 ∷ 9 ∷ 9 ∷ []) (6 ∷ 8 ∷ [])) ∷
     -- B: without swaps six rows of size 1
-    lists sheetB 1000000 (9 ∷ 9 ∷ 9 ∷ 9 ∷ 9 ∷ 9 ∷ 9 ∷ 9 ∷ 9 ∷ 9 ∷ 9 ∷ 9 ∷ 9 ∷ []) (8 ∷ 8 ∷ 8 ∷ 8 ∷ 8 ∷ 8 ∷ 8 ∷ []) (left 0 0 6 9 6 (0 ∷ 1 ∷ 0 ∷ 2 ∷ 1 ∷ 0 ∷ 1 ∷ 2 ∷ 2 ∷ 0 ∷ 2 ∷ 1 ∷ 9 ∷ []) (1 ∷ 1 ∷ 1 ∷ 1 ∷ 1 ∷ 1 ∷ 8 ∷ [])) ∷
+    lists sheetB 1000000 (9 ∷ 9 ∷ 9 ∷ 9 ∷ 9 ∷ 9 ∷ 9 ∷ 9 ∷ 9 ∷ 9 ∷ 9 ∷ 9 ∷ 9 ∷ []) (8 ∷ 8 ∷ 8 ∷ 8 ∷ 8 ∷ 8 ∷ 8 ∷ []) (left noFault 6 9 6 (0 ∷ 1 ∷ 0 ∷ 2 ∷ 1 ∷ 0 ∷ 1 ∷ 2 ∷ 2 ∷ 0 ∷ 2 ∷ 1 ∷ 9 ∷ []) (1 ∷ 1 ∷ 1 ∷ 1 ∷ 1 ∷ 1 ∷ 8 ∷ [])) ∷
     -- C: no rules, five kinds
-    lists sheetC 1000000 (9 ∷ 9 ∷ 9 ∷ 9 ∷ 9 ∷ 9 ∷ 9 ∷ 9 ∷ 9 ∷ 9 ∷ 9 ∷ 9 ∷ 9 ∷ 9 ∷ 9 ∷ 9 ∷ []) (8 ∷ 8 ∷ 8 ∷ 8 ∷ 8 ∷ []) (left 0 0 5 8 27 (0 ∷ 0 ∷ 0 ∷ 0 ∷ 0 ∷ 1 ∷ 0 ∷ 1 ∷ 0 ∷ 0 ∷ 1 ∷ 1 ∷ 0 ∷ 1 ∷ 2 ∷ 9 ∷ []) (3 ∷ 6 ∷ 6 ∷ 6 ∷ 6 ∷ [])) ∷
+    lists sheetC 1000000 (9 ∷ 9 ∷ 9 ∷ 9 ∷ 9 ∷ 9 ∷ 9 ∷ 9 ∷ 9 ∷ 9 ∷ 9 ∷ 9 ∷ 9 ∷ 9 ∷ 9 ∷ 9 ∷ []) (8 ∷ 8 ∷ 8 ∷ 8 ∷ 8 ∷ []) (left noFault 5 8 27 (0 ∷ 0 ∷ 0 ∷ 0 ∷ 0 ∷ 1 ∷ 0 ∷ 1 ∷ 0 ∷ 0 ∷ 1 ∷ 1 ∷ 0 ∷ 1 ∷ 2 ∷ 9 ∷ []) (3 ∷ 6 ∷ 6 ∷ 6 ∷ 6 ∷ [])) ∷
     -- D: the carriers turn round in a ring
-    lists sheetD 1000000 (9 ∷ 9 ∷ 9 ∷ 9 ∷ 9 ∷ []) (8 ∷ 8 ∷ 8 ∷ []) (left 0 0 2 3 6 (0 ∷ 1 ∷ 0 ∷ 2 ∷ 9 ∷ []) (3 ∷ 3 ∷ 8 ∷ [])) ∷
+    lists sheetD 1000000 (9 ∷ 9 ∷ 9 ∷ 9 ∷ 9 ∷ []) (8 ∷ 8 ∷ 8 ∷ []) (left noFault 2 3 6 (0 ∷ 1 ∷ 0 ∷ 2 ∷ 9 ∷ []) (3 ∷ 3 ∷ 8 ∷ [])) ∷
     -- E: no plan; E1: refused by the allowance
-    lists sheetE 2 (9 ∷ 9 ∷ 9 ∷ []) (8 ∷ []) (left 0 0 0 2 0 (9 ∷ 9 ∷ 9 ∷ []) (8 ∷ [])) ∷
-    lists sheetE 1 (9 ∷ 9 ∷ 9 ∷ []) (8 ∷ []) (left 10 0 0 1 0 (255 ∷ 255 ∷ 255 ∷ []) (0 ∷ [])) ∷
+    lists sheetE 2 (9 ∷ 9 ∷ 9 ∷ []) (8 ∷ []) (left noFault 0 2 0 (9 ∷ 9 ∷ 9 ∷ []) (8 ∷ [])) ∷
+    lists sheetE 1 (9 ∷ 9 ∷ 9 ∷ []) (8 ∷ []) (left (fault opened-beyond 0) 0 1 0 (255 ∷ 255 ∷ 255 ∷ []) (0 ∷ [])) ∷
     -- F, G: swaps that keep no list, no rule
-    lists sheetF 1000000 (9 ∷ []) (8 ∷ []) (left 7 6 0 0 0 (9 ∷ []) (8 ∷ [])) ∷
-    lists sheetG 1000000 (9 ∷ []) (8 ∷ []) (left 8 15 0 0 0 (9 ∷ []) (8 ∷ [])) ∷
+    lists sheetF 1000000 (9 ∷ []) (8 ∷ []) (left (fault list-not-kept 6) 0 0 0 (9 ∷ []) (8 ∷ [])) ∷
+    lists sheetG 1000000 (9 ∷ []) (8 ∷ []) (left (fault rule-not-kept 15) 0 0 0 (9 ∷ []) (8 ∷ [])) ∷
     -- H: no bytes, and one byte more
-    lists [] 1000000 (9 ∷ []) (8 ∷ []) (left 1 0 0 0 0 (9 ∷ []) (8 ∷ [])) ∷
-    lists (sheetA ++ (0 ∷ [])) 1000000 (9 ∷ []) (8 ∷ []) (left 9 33 0 0 0 (9 ∷ []) (8 ∷ [])) ∷
+    lists [] 1000000 (9 ∷ []) (8 ∷ []) (left (fault sheet-ends 0) 0 0 0 (9 ∷ []) (8 ∷ [])) ∷
+    lists (sheetA ++ (0 ∷ [])) 1000000 (9 ∷ []) (8 ∷ []) (left (fault bytes-follow 33) 0 0 0 (9 ∷ []) (8 ∷ [])) ∷
     -- J: D with room 1; the fillings cover the whole of both lists
-    lists sheetD 1000000 (9 ∷ 9 ∷ 9 ∷ 9 ∷ 9 ∷ []) (8 ∷ []) (left 11 0 2 3 6 (255 ∷ 255 ∷ 255 ∷ 255 ∷ 255 ∷ []) (0 ∷ [])) ∷
+    lists sheetD 1000000 (9 ∷ 9 ∷ 9 ∷ 9 ∷ 9 ∷ []) (8 ∷ []) (left (fault listed-beyond 0) 2 3 6 (255 ∷ 255 ∷ 255 ∷ 255 ∷ 255 ∷ []) (0 ∷ [])) ∷
     -- neither allowance nor room is enough: the allowance is asked first
-    lists sheetD 2 (9 ∷ 9 ∷ 9 ∷ []) (8 ∷ []) (left 10 0 0 2 0 (255 ∷ 255 ∷ 255 ∷ []) (0 ∷ [])) ∷
+    lists sheetD 2 (9 ∷ 9 ∷ 9 ∷ []) (8 ∷ []) (left (fault opened-beyond 0) 0 2 0 (255 ∷ 255 ∷ 255 ∷ []) (0 ∷ [])) ∷
     -- K, M: folded rows
-    folds sheetA (2 ∷ 0 ∷ []) (9 ∷ 9 ∷ []) (9 ∷ 9 ∷ 9 ∷ []) (folded 0 0 6 (0 ∷ 1 ∷ []) (1 ∷ 2 ∷ 0 ∷ [])) ∷
-    folds sheetD (1 ∷ 0 ∷ []) (9 ∷ 9 ∷ []) (9 ∷ 9 ∷ 9 ∷ []) (folded 0 0 3 (0 ∷ 2 ∷ []) (2 ∷ 0 ∷ 1 ∷ [])) ∷ []
+    folds sheetA (2 ∷ 0 ∷ []) (9 ∷ 9 ∷ []) (9 ∷ 9 ∷ 9 ∷ []) (folded noFault 6 (0 ∷ 1 ∷ []) (1 ∷ 2 ∷ 0 ∷ [])) ∷
+    folds sheetD (1 ∷ 0 ∷ []) (9 ∷ 9 ∷ []) (9 ∷ 9 ∷ 9 ∷ []) (folded noFault 3 (0 ∷ 2 ∷ []) (2 ∷ 0 ∷ 1 ∷ [])) ∷ []
 
 -- ---- the statement
 

@@ -1,13 +1,15 @@
 -- What the search leaves settles the listing's answer.
 --
 --   Given s k n m ..     the bytes s are a sheet of k carriers, n risers and m swaps, and the tables serve the search of it
---   settled room s       what is left, from the state s of the search: filled over where the allowance or the room was not enough
+--   stopped s, crowded s, written s   what is left, from the state s of the search: where the allowance was not enough, where the
+--                        room was not, and else
+--   settled room s       the one of the three that it is
 --
 -- Where the reader accepts, the tables are given (`given`), the search may start (`ready`), and what is settled fits the meanings
 -- (`settles`): a walk that the allowance is enough for leaves the true numbers and the listing's first lines (`run-all`), another one a
 -- stop (`run-many`). Where the reader refuses, so does the listing (`refuses`).
 -- Assumes nothing.
-use mathlib.Core.Path.{_≡_, sym, ap, subst, _∙_}
+use mathlib.Core.Path.{_≡_, refl, sym, ap, subst, _∙_}
 use mathlib.Core.Bool.{Bool, true, false, cond}
 use mathlib.Core.List.{List}
 use Prim.Native.Nat.{ℕ, _*_, _/_, _≤_, _<_, min}
@@ -18,7 +20,8 @@ use borrow.Author.Tests.{lt-ltb, le-ltb}
 use lib.Dec.{ltb}
 use lib.ListN.{length, take, replicate}
 use lib.Seq.{take-all}
-use Rattle.ground.specs.Meanings.Sheet.{Sheet, Accepted, Refused, most-swaps}
+use Rattle.ground.specs.declared.Fault.{Fault}
+use Rattle.ground.specs.Meanings.Sheet.{opened-beyond, listed-beyond, fault, noFault, Sheet, Accepted, Refused, most-swaps}
 use Rattle.ground.specs.Meanings.Plans.{risers}
 use Rattle.ground.specs.Meanings.Listing.{Line, onSheet, Listing, room, filled, over, flat, rowsOf, sizesOf, Left, left, ListsOn, beyond-allowance, beyond-room, listed, Lists}
 use Rattle.ground.specs.Laws.Classes.{total}
@@ -54,7 +57,7 @@ given {member = member} {allowed = allowed} {ends = ends} {swaps = swaps} R e =
       eight = swaps-table w;
     }
 
-pub refuses : {s : List ℕ} {number place : ℕ} {r : Head} {member allowed ends : List ℕ} {swaps : List (List ℕ)} (allowance : ℕ) (bytes sizes : List ℕ) → reader.Reads s 0 r member allowed ends swaps → r ≡ Head.Refused number place → Lists s allowance bytes sizes (left number place 0 0 0 bytes sizes)
+pub refuses : {s : List ℕ} {f : Fault} {r : Head} {member allowed ends : List ℕ} {swaps : List (List ℕ)} (allowance : ℕ) (bytes sizes : List ℕ) → reader.Reads s 0 r member allowed ends swaps → r ≡ Head.Refused f → Lists s allowance bytes sizes (left f 0 0 0 bytes sizes)
 refuses allowance bytes sizes R e = Lists.faulty (refused-as R e .0)
 
 module _ {s : List ℕ} {k n m : ℕ} {member allowed ends : List ℕ} {swaps : List (List ℕ)} (G : Given s k n m member allowed ends swaps) where
@@ -72,31 +75,31 @@ module _ {s : List ℕ} {k n m : ℕ} {member allowed ends : List ℕ} {swaps : 
 
 -- ---- what is left, from the state of the search
 
+abbrev stopped : State → Left
+stopped s = left (fault opened-beyond 0) 0 (s .opened) 0 (filled 255 (s .rows)) (filled 0 (s .sizes))
+
+abbrev crowded : State → Left
+crowded s = left (fault listed-beyond 0) (s .listed) (s .opened) (s .total) (filled 255 (s .rows)) (filled 0 (s .sizes))
+
+abbrev written : State → Left
+written s = left noFault (s .listed) (s .opened) (s .total) (s .rows) (s .sizes)
+
 abbrev pub settled : ℕ → State → Left
-settled room s =
-    cond (s .over)
-    (left 10 0 0 (s .opened) 0 (filled 255 (s .rows)) (filled 0 (s .sizes)))
-    (cond (ltb room (s .listed))
-    (left 11 0 (s .listed) (s .opened) (s .total) (filled 255 (s .rows)) (filled 0 (s .sizes)))
-    (left 0 0 (s .listed) (s .opened) (s .total) (s .rows) (s .sizes)))
+settled room s = cond (s .over) (stopped s) (cond (ltb room (s .listed)) (crowded s) (written s))
 
 module _ (room : ℕ) (s : State) where
-  pub settled-over : {bytes sizes : List ℕ} → s .over ≡ true → bytes ≡ filled 255 (s .rows) → sizes ≡ filled 0 (s .sizes) → left 10 0 0 (s .opened) 0 bytes sizes ≡ settled room s
-  settled-over e b z =
-      (λ i. left 10 0 0 (s .opened) 0 (b i) (z i))
-      ∙ sym (ap (λ (v : Bool). cond v (left 10 0 0 (s .opened) 0 (filled 255 (s .rows)) (filled 0 (s .sizes))) (cond (ltb room (s .listed)) (left 11 0 (s .listed) (s .opened) (s .total) (filled 255 (s .rows)) (filled 0 (s .sizes))) (left 0 0 (s .listed) (s .opened) (s .total) (s .rows) (s .sizes)))) e)
+  pub settled-over : {f : Fault} {bytes sizes : List ℕ} → s .over ≡ true → bytes ≡ filled 255 (s .rows) → sizes ≡ filled 0 (s .sizes) → f ≡ fault opened-beyond 0 → left f 0 (s .opened) 0 bytes sizes ≡ settled room s
+  settled-over e b z h = (λ i. left (h i) 0 (s .opened) 0 (b i) (z i)) ∙ sym (ap (λ (v : Bool). cond v (stopped s) (cond (ltb room (s .listed)) (crowded s) (written s))) e)
 
   module _ (e : s .over ≡ false) where
-    going : settled room s ≡ cond (ltb room (s .listed)) (left 11 0 (s .listed) (s .opened) (s .total) (filled 255 (s .rows)) (filled 0 (s .sizes))) (left 0 0 (s .listed) (s .opened) (s .total) (s .rows) (s .sizes))
-    going = ap (λ (v : Bool). cond v (left 10 0 0 (s .opened) 0 (filled 255 (s .rows)) (filled 0 (s .sizes))) (cond (ltb room (s .listed)) (left 11 0 (s .listed) (s .opened) (s .total) (filled 255 (s .rows)) (filled 0 (s .sizes))) (left 0 0 (s .listed) (s .opened) (s .total) (s .rows) (s .sizes)))) e
+    going : settled room s ≡ cond (ltb room (s .listed)) (crowded s) (written s)
+    going = ap (λ (v : Bool). cond v (stopped s) (cond (ltb room (s .listed)) (crowded s) (written s))) e
 
-    pub settled-crowded : {bytes sizes : List ℕ} → room < s .listed → bytes ≡ filled 255 (s .rows) → sizes ≡ filled 0 (s .sizes) → left 11 0 (s .listed) (s .opened) (s .total) bytes sizes ≡ settled room s
-    settled-crowded l b z =
-        (λ i. left 11 0 (s .listed) (s .opened) (s .total) (b i) (z i))
-        ∙ sym (going ∙ ap (λ (v : Bool). cond v (left 11 0 (s .listed) (s .opened) (s .total) (filled 255 (s .rows)) (filled 0 (s .sizes))) (left 0 0 (s .listed) (s .opened) (s .total) (s .rows) (s .sizes))) (lt-ltb room (s .listed) l))
+    pub settled-crowded : {f : Fault} {bytes sizes : List ℕ} → room < s .listed → bytes ≡ filled 255 (s .rows) → sizes ≡ filled 0 (s .sizes) → f ≡ fault listed-beyond 0 → left f (s .listed) (s .opened) (s .total) bytes sizes ≡ settled room s
+    settled-crowded l b z h = (λ i. left (h i) (s .listed) (s .opened) (s .total) (b i) (z i)) ∙ sym (going ∙ ap (λ (v : Bool). cond v (crowded s) (written s)) (lt-ltb room (s .listed) l))
 
-    pub settled-fits : s .listed ≤ room → left 0 0 (s .listed) (s .opened) (s .total) (s .rows) (s .sizes) ≡ settled room s
-    settled-fits l = sym (going ∙ ap (λ (v : Bool). cond v (left 11 0 (s .listed) (s .opened) (s .total) (filled 255 (s .rows)) (filled 0 (s .sizes))) (left 0 0 (s .listed) (s .opened) (s .total) (s .rows) (s .sizes))) (le-ltb room (s .listed) l))
+    pub settled-fits : {f : Fault} → s .listed ≤ room → f ≡ noFault → left f (s .listed) (s .opened) (s .total) (s .rows) (s .sizes) ≡ settled room s
+    settled-fits l h = (λ i. left (h i) (s .listed) (s .opened) (s .total) (s .rows) (s .sizes)) ∙ sym (going ∙ ap (λ (v : Bool). cond v (crowded s) (written s)) (le-ltb room (s .listed) l))
 
 -- ---- from the search to the answer
 
@@ -124,7 +127,7 @@ module _ {X : Sheet} {z : Limits} {m : ℕ} {T : Tables} {swaps : List (List ℕ
       go (yes l) d =
           let b = subst (λ (v : State). (v .over ≡ true) × (v .opened ≡ z .allowance)) (sym (A .is)) (run-many z (A .visits) rows sizes l) in
           subst (ListsOn (onSheet X) (z .allowance) rows sizes)
-          (ap (λ (o : ℕ). left 10 0 0 o 0 (filled 255 rows) (filled 0 sizes)) (sym (b .1)) ∙ settled-over (z .room) s (b .0) bytes-filled sizes-filled)
+          (ap (λ (o : ℕ). left (fault opened-beyond 0) 0 o 0 (filled 255 rows) (filled 0 sizes)) (sym (b .1)) ∙ settled-over (z .room) s (b .0) bytes-filled sizes-filled refl)
           (beyond-allowance (walk-opened (A .walk)) l)
       go (no f) d = within (A .is ∙ run-all z (A .visits) rows sizes (R .room-rows) (R .room-sizes) (omega arith)) d
         where
@@ -133,14 +136,14 @@ module _ {X : Sheet} {z : Limits} {m : ℕ} {T : Tables} {swaps : List (List ℕ
           within w (yes l) =
               let m = ap (λ (v : State). v .listed) w in
               subst (ListsOn (onSheet X) (z .allowance) rows sizes)
-              (ap (λ (v : State). left 11 0 (v .listed) (v .opened) (v .total) (filled 255 rows) (filled 0 sizes)) (sym w) ∙ settled-crowded (z .room) s (ap (λ (v : State). v .over) w) (omega arith) bytes-filled sizes-filled)
+              (ap (λ (v : State). left (fault listed-beyond 0) (v .listed) (v .opened) (v .total) (filled 255 rows) (filled 0 sizes)) (sym w) ∙ settled-crowded (z .room) s (ap (λ (v : State). v .over) w) (omega arith) bytes-filled sizes-filled refl)
               (beyond-room (walk-opened (A .walk)) (omega arith) (sizes-sum (plan-kinds (Y .sound)) lists) lists (omega arith))
           within w (no g) =
               let m = ap (λ (v : State). v .listed) w in
               let t : take (z .room) lines ≡ lines = take-all (z .room) lines (omega arith) in
               subst (ListsOn (onSheet X) (z .allowance) rows sizes)
-              (ap (λ (F : List Line). left 0 0 (length lines) (length (A .visits)) (total (sizesOf lines)) (over (flat (rowsOf F)) rows) (over (sizesOf F) sizes)) (sym t)
-              ∙ ap (λ (v : State). left 0 0 (v .listed) (v .opened) (v .total) (v .rows) (v .sizes)) (sym w) ∙ settled-fits (z .room) s (ap (λ (v : State). v .over) w) (omega arith))
+              (ap (λ (F : List Line). left noFault (length lines) (length (A .visits)) (total (sizesOf lines)) (over (flat (rowsOf F)) rows) (over (sizesOf F) sizes)) (sym t)
+              ∙ ap (λ (v : State). left noFault (v .listed) (v .opened) (v .total) (v .rows) (v .sizes)) (sym w) ∙ settled-fits (z .room) s (ap (λ (v : State). v .over) w) (omega arith) refl)
               (listed (walk-opened (A .walk)) (omega arith) (sizes-sum (plan-kinds (Y .sound)) lists) lists (omega arith))
 
 pub settles : (s : List ℕ) (z : Limits) {k n m : ℕ} {member allowed ends : List ℕ} {swaps : List (List ℕ)} (rows sizes : List ℕ) (v : State) (o : Left) → Given s k n m member allowed ends swaps → z .carriers ≡ k → z .risers ≡ n → z .room ≡ min (length rows / n) (length sizes)

@@ -7,15 +7,16 @@ ghost use Prim.Native.Nat.{_/_, _<_, min};
 ghost use Rattle.ground.specs.Meanings.Listing.{Lists, left, filled};
 ghost use Rattle.last.specs.Last.{stateOf};
 ghost use Rattle.listing.specs.Settling.{settled};
+use ground::BEYOND_ALLOWANCE;
+use ground::BEYOND_ROOM;
+use ground::Fault;
 use last::Tally;
 use sheet::Head;
 use tree::Limits;
 
-// The answer: the number of the refusal and its place, both 0 where there is none; how many plans are listed, how many rows were
-// opened, and how many plans there are.
+// The answer: the fault, or none; how many plans are listed, how many rows were opened, and how many plans there are.
 pub struct Answer {
-    pub number: u8,
-    pub place: usize,
+    pub fault: Fault,
     pub listed: usize,
     pub opened: u64,
     pub total: u64,
@@ -50,14 +51,13 @@ fn room(n: usize, bytes: usize, sizes: usize) -> usize
 
 // The answer to what the search left. Both lists are filled over if the allowance was used up, or if there was no room for all lines.
 fn settle(t: Tally, room: usize, bytes: &mut [u8], sizes: &mut [u64]) -> Answer
-    ensures { λ r. ⌜ left (r .number) (r .place) (r .listed) (r .opened) (r .total) (now (bytes .exit)) (now (sizes .exit)) ≡ settled room (stateOf t (now (bytes .entry)) (now (sizes .entry))) ⌝ }
+    ensures { λ r. ⌜ left (r .fault) (r .listed) (r .opened) (r .total) (now (bytes .exit)) (now (sizes .exit)) ≡ settled room (stateOf t (now (bytes .entry)) (now (sizes .entry))) ⌝ }
 {
     if t.over {
         fill_bytes(bytes, 255);
         clear_sizes(sizes);
         return Answer {
-            number: 10,
-            place: 0,
+            fault: Fault::of(BEYOND_ALLOWANCE, 0),
             listed: 0,
             opened: t.opened,
             total: 0,
@@ -67,16 +67,14 @@ fn settle(t: Tally, room: usize, bytes: &mut [u8], sizes: &mut [u64]) -> Answer
         fill_bytes(bytes, 255);
         clear_sizes(sizes);
         return Answer {
-            number: 11,
-            place: 0,
+            fault: Fault::of(BEYOND_ROOM, 0),
             listed: t.listed,
             opened: t.opened,
             total: t.total,
         };
     }
     Answer {
-        number: 0,
-        place: 0,
+        fault: Fault::none(),
         listed: t.listed,
         opened: t.opened,
         total: t.total,
@@ -86,16 +84,15 @@ fn settle(t: Tally, room: usize, bytes: &mut [u8], sizes: &mut [u64]) -> Answer
 // Lists the plans of a sheet: the rows into `bytes`, one after another from the start, their class sizes into `sizes`. An answer with
 // number 10 or 11 leaves `bytes` all 255 and `sizes` all 0, one with a lower number leaves both as they came.
 pub fn list(sheet: &[u8], allowance: u64, bytes: &mut [u8], sizes: &mut [u64]) -> Answer
-    ensures { λ r. ⌜ Lists (now (sheet .entry)) allowance (now (bytes .entry)) (now (sizes .entry)) (left (r .number) (r .place) (r .listed) (r .opened) (r .total) (now (bytes .exit)) (now (sizes .exit))) ⌝ }
+    ensures { λ r. ⌜ Lists (now (sheet .entry)) allowance (now (bytes .entry)) (now (sizes .entry)) (left (r .fault) (r .listed) (r .opened) (r .total) (now (bytes .exit)) (now (sizes .exit))) ⌝ }
 {
     let mut member = [0u8; ground::LISTED];
     let mut allowed = [0u8; ground::ALLOWED];
     let mut ends = [0u8; ground::ENDS];
     let mut swaps = [[0u8; ground::CARRIERS]; ground::SWAPS];
     match sheet::read_sheet(sheet, &mut member, &mut allowed, &mut ends, &mut swaps) {
-        Head::Refused(number, place) => Answer {
-            number: number,
-            place: place,
+        Head::Refused(fault) => Answer {
+            fault: fault,
             listed: 0,
             opened: 0,
             total: 0,

@@ -15,7 +15,8 @@ use native.Mathlib.Decide.{decLt}
 use lib.Dec.{ltb, leb}
 use lib.ListN.{set}
 use borrow.Author.Tests.{lt-ltb, le-ltb, le-leb, lt-leb, ltb-true, eq-eqb, ne-eqb}
-use Rattle.ground.specs.Meanings.Sheet.{got, andThen, checked, two, Pair, Rule, many, count, allowedPair, ruleThat, rule, after, before, most-carriers, most-risers, most-pairs}
+use Rattle.ground.specs.declared.Fault.{Fault}
+use Rattle.ground.specs.Meanings.Sheet.{wrong-rule, wrong-pair, fault, got, andThen, checked, two, Pair, Rule, many, count, allowedPair, ruleThat, rule, after, before, most-carriers, most-risers, most-pairs}
 use Rattle.ground.specs.Laws.Reading.{andThen-got, checked-got, checked-bad, checked-refused, checked-same, checked-passed, and-left, and-right}
 use Rattle.fields.specs.declared.Section.{Section}
 use Rattle.fields.specs.declared.Number.{Number}
@@ -29,18 +30,18 @@ use Rattle.fields.specs.Risers.{after-snoc, listed-small}
 -- ---- two bytes that are a pair
 
 module _ (q : ℕ) (test : Pair → Bool) (least : ℕ) (s : List ℕ) (p : ℕ) where
-  pub pair-short : {r w : ℕ} → Two.Refused r w ≡ tellTwo (two s p) → Two.Refused r w ≡ tellTwo (pairFrom q test least s p)
+  pub pair-short : {f : Fault} → Two.Refused f ≡ tellTwo (two s p) → Two.Refused f ≡ tellTwo (pairFrom q test least s p)
   unfolding pairFrom
   pair-short e = ap tellTwo (sym (checked-refused q _ two s p (two-refused (two s p) e)))
 
   module _ {u v next : ℕ} (e : Two.Read u v next ≡ tellTwo (two s p)) where
-    pub pair-fails : test (pair u v) ≡ false → Two.Refused q p ≡ tellTwo (pairFrom q test least s p)
+    pub pair-fails : {f : Fault} → test (pair u v) ≡ false → f ≡ fault q p → Two.Refused f ≡ tellTwo (pairFrom q test least s p)
     unfolding pairFrom
-    pair-fails h = ap tellTwo (sym (checked-bad q _ two s p (two-got (two s p) e) (rw h)))
+    pair-fails h g = ap Two.Refused g ∙ ap tellTwo (sym (checked-bad q _ two s p (two-got (two s p) e) (rw h)))
 
-    pub pair-early : test (pair u v) ≡ true → key (pair u v) < least → Two.Refused q p ≡ tellTwo (pairFrom q test least s p)
+    pub pair-early : {f : Fault} → test (pair u v) ≡ true → key (pair u v) < least → f ≡ fault q p → Two.Refused f ≡ tellTwo (pairFrom q test least s p)
     unfolding pairFrom
-    pair-early h g = ap tellTwo (sym (checked-bad q _ two s p (two-got (two s p) e) (rw (h, lt-leb _ _ g))))
+    pair-early h g f = ap Two.Refused f ∙ ap tellTwo (sym (checked-bad q _ two s p (two-got (two s p) e) (rw (h, lt-leb _ _ g))))
 
     pub pair-is : test (pair u v) ≡ true → least ≤ key (pair u v) → Two.Read u v next ≡ tellTwo (pairFrom q test least s p)
     unfolding pairFrom
@@ -94,8 +95,8 @@ module _ (n u v : ℕ) where
   unfolding ordered
   ordered-right e = ltb-true v n (and-right (ltb u v) (ltb v n) e)
 
-pub risers-ordered : (n least : ℕ) (s : List ℕ) (p : ℕ) {a b next : ℕ} → Two.Read a b next ≡ tellTwo (pairFrom 4 (ordered n) least s p) → (a < b) × (b < n)
-risers-ordered n least s p {a} {b} e = let t = pair-passed 4 (ordered n) least s p e in (ordered-left n a b t, ordered-right n a b t)
+pub risers-ordered : (n least : ℕ) (s : List ℕ) (p : ℕ) {a b next : ℕ} → Two.Read a b next ≡ tellTwo (pairFrom wrong-rule (ordered n) least s p) → (a < b) × (b < n)
+risers-ordered n least s p {a} {b} e = let t = pair-passed wrong-rule (ordered n) least s p e in (ordered-left n a b t, ordered-right n a b t)
 
 -- ---- the order of pairs is that of their keys
 
@@ -134,24 +135,24 @@ pub record PairsSoFar (s : List ℕ) (from a b m q : ℕ) (M T₀ T : List ℕ) 
   pub filling : Filling (allowedPair (isListed M a) (isListed M b)) (putPair q) m s from T₀ T p i done
   pub lower : Beyond least done
 
-allowed-is : (M : List ℕ) (a b : ℕ) (done : List Pair) (s : List ℕ) (p least : ℕ) → Beyond least done → allowedPair (isListed M a) (isListed M b) done s p ≡ pairFrom 5 (bothListed M a b) least s p
+allowed-is : (M : List ℕ) (a b : ℕ) (done : List Pair) (s : List ℕ) (p least : ℕ) → Beyond least done → allowedPair (isListed M a) (isListed M b) done s p ≡ pairFrom wrong-pair (bothListed M a b) least s p
 unfolding pairFrom bothListed allowedPair Beyond
-allowed-is M a b done s p least h = checked-same 5 _ _ two s p (λ x. same-test (bothListed M a b x) (after before done x) (leb least (key x)) (λ (e : bothListed M a b x ≡ true). h x (both-right M a b (x .left) (x .right) e)))
+allowed-is M a b done s p least h = checked-same wrong-pair _ _ two s p (λ x. same-test (bothListed M a b x) (after before done x) (leb least (key x)) (λ (e : bothListed M a b x ≡ true). h x (both-right M a b (x .left) (x .right) e)))
 
 module _ (s : List ℕ) (from a b m q : ℕ) (M T₀ : List ℕ) where
   pub pairs-start : PairsSoFar s from a b m q M T₀ T₀ from 0 0
   pairs-start = record { done = []; filling = filling-starts (allowedPair (isListed M a) (isListed M b)) (putPair q) m s from T₀; lower = beyond-none }
 
   module _ (T : List ℕ) (p least i : ℕ) (w : PairsSoFar s from a b m q M T₀ T p least i) where
-    pub pairs-more : {u v next : ℕ} → i < m → Two.Read u v next ≡ tellTwo (pairFrom 5 (bothListed M a b) least s p) → PairsSoFar s from a b m q M T₀ (set T (q * most-pairs + (u * most-carriers + v)) 1) next (u * most-carriers + v + 1) (i + 1)
+    pub pairs-more : {u v next : ℕ} → i < m → Two.Read u v next ≡ tellTwo (pairFrom wrong-pair (bothListed M a b) least s p) → PairsSoFar s from a b m q M T₀ (set T (q * most-pairs + (u * most-carriers + v)) 1) next (u * most-carriers + v + 1) (i + 1)
     pairs-more {u} {v} {next} l e = record {
       done = w .done ++ (pair u v ∷ []);
-      filling = filling-more (allowedPair (isListed M a) (isListed M b)) (putPair q) m s from T₀ (w .filling) l (allowed-is M a b (w .done) s p least (w .lower) ∙ two-got (pairFrom 5 (bothListed M a b) least s p) e);
-      lower = beyond-more (w .done) (pair u v) (both-right M a b u v (pair-passed 5 (bothListed M a b) least s p e));
+      filling = filling-more (allowedPair (isListed M a) (isListed M b)) (putPair q) m s from T₀ (w .filling) l (allowed-is M a b (w .done) s p least (w .lower) ∙ two-got (pairFrom wrong-pair (bothListed M a b) least s p) e);
+      lower = beyond-more (w .done) (pair u v) (both-right M a b u v (pair-passed wrong-pair (bothListed M a b) least s p e));
     }
 
-    pub pairs-refused : {x r : ℕ} {P : List Pair → Type 0} → i < m → Two.Refused x r ≡ tellTwo (pairFrom 5 (bothListed M a b) least s p) → Answers tellSection (many (allowedPair (isListed M a) (isListed M b)) m [] s from) (Section.Refused x r) P
-    pairs-refused l e = filling-refused (allowedPair (isListed M a) (isListed M b)) (putPair q) m s from T₀ (w .filling) l (allowed-is M a b (w .done) s p least (w .lower) ∙ two-refused (pairFrom 5 (bothListed M a b) least s p) e)
+    pub pairs-refused : {f : Fault} {P : List Pair → Type 0} → i < m → Two.Refused f ≡ tellTwo (pairFrom wrong-pair (bothListed M a b) least s p) → Answers tellSection (many (allowedPair (isListed M a) (isListed M b)) m [] s from) (Section.Refused f) P
+    pairs-refused l e = filling-refused (allowedPair (isListed M a) (isListed M b)) (putPair q) m s from T₀ (w .filling) l (allowed-is M a b (w .done) s p least (w .lower) ∙ two-refused (pairFrom wrong-pair (bothListed M a b) least s p) e)
 
     pub pairs-end : m ≤ i → Answers tellSection (many (allowedPair (isListed M a) (isListed M b)) m [] s from) (Section.Read p) (λ (l : List Pair). T ≡ markPairs T₀ q l)
     pairs-end l = filling-ends (allowedPair (isListed M a) (isListed M b)) (putPair q) m s from T₀ (w .filling) l
@@ -162,38 +163,38 @@ module _ (n : ℕ) (M : List ℕ) (least : ℕ) (s : List ℕ) (p q : ℕ) (T E 
   abbrev Entered : Rule → Type 0
   Entered x = ruleTables T′ E′ ≡ putRule (ruleTables T E) q x
 
-  pub rule-no-risers : {x r : ℕ} → Two.Refused x r ≡ tellTwo (pairFrom 4 (ordered n) least s p) → Answers tellRule (ruleFrom n (isListed M) least s p) (Two.Refused x r) Entered
+  pub rule-no-risers : {f : Fault} → Two.Refused f ≡ tellTwo (pairFrom wrong-rule (ordered n) least s p) → Answers tellRule (ruleFrom n (isListed M) least s p) (Two.Refused f) Entered
   unfolding pairFrom ordered ruleThat
-  rule-no-risers e = answer-refused tellRule (rw (two-refused (pairFrom 4 (ordered n) least s p) e))
+  rule-no-risers e = answer-refused tellRule (rw (two-refused (pairFrom wrong-rule (ordered n) least s p) e))
 
-  module _ {a b second : ℕ} (e : Two.Read a b second ≡ tellTwo (pairFrom 4 (ordered n) least s p)) where
-    pub rule-no-count : {x r : ℕ} → Number.Refused x r ≡ tellNumber (count 0 most-pairs s second) → Answers tellRule (ruleFrom n (isListed M) least s p) (Two.Refused x r) Entered
+  module _ {a b second : ℕ} (e : Two.Read a b second ≡ tellTwo (pairFrom wrong-rule (ordered n) least s p)) where
+    pub rule-no-count : {f : Fault} → Number.Refused f ≡ tellNumber (count 0 most-pairs s second) → Answers tellRule (ruleFrom n (isListed M) least s p) (Two.Refused f) Entered
     unfolding pairFrom ordered ruleThat
-    rule-no-count f = answer-refused tellRule (rw (two-got (pairFrom 4 (ordered n) least s p) e, number-refused (count 0 most-pairs s second) f))
+    rule-no-count f = answer-refused tellRule (rw (two-got (pairFrom wrong-rule (ordered n) least s p) e, number-refused (count 0 most-pairs s second) f))
 
     module _ {m third : ℕ} (f : Number.Read m third ≡ tellNumber (count 0 most-pairs s second)) {r : Section} (g : Answers tellSection (many (allowedPair (isListed M a) (isListed M b)) m [] s third) r (λ (l : List Pair). T′ ≡ markPairs T q l)) where
-      pub rule-no-pairs : {x w : ℕ} → r ≡ Section.Refused x w → Answers tellRule (ruleFrom n (isListed M) least s p) (Two.Refused x w) Entered
+      pub rule-no-pairs : {f : Fault} → r ≡ Section.Refused f → Answers tellRule (ruleFrom n (isListed M) least s p) (Two.Refused f) Entered
       unfolding pairFrom ordered ruleThat
-      rule-no-pairs h = answer-refused tellRule (rw (two-got (pairFrom 4 (ordered n) least s p) e, number-got (count 0 most-pairs s second) f, section-refused g h))
+      rule-no-pairs h = answer-refused tellRule (rw (two-got (pairFrom wrong-rule (ordered n) least s p) e, number-got (count 0 most-pairs s second) f, section-refused g h))
 
       pub rule-is : {next : ℕ} → r ≡ Section.Read next → E′ ≡ set E (b * most-risers + a) (q + 1) → Answers tellRule (ruleFrom n (isListed M) least s p) (Two.Read a b next) Entered
       unfolding putRule pairFrom ordered ruleThat
       rule-is {next} h k = let z = section-got g h in made e f (z .0) (z .1) (z .2) k
         where
-          made : {a b second m third next : ℕ} → Two.Read a b second ≡ tellTwo (pairFrom 4 (ordered n) least s p) → Number.Read m third ≡ tellNumber (count 0 most-pairs s second) → (l : List Pair)
+          made : {a b second m third next : ℕ} → Two.Read a b second ≡ tellTwo (pairFrom wrong-rule (ordered n) least s p) → Number.Read m third ≡ tellNumber (count 0 most-pairs s second) → (l : List Pair)
               → many (allowedPair (isListed M a) (isListed M b)) m [] s third ≡ got l next → T′ ≡ markPairs T q l → E′ ≡ set E (b * most-risers + a) (q + 1) → Answers tellRule (ruleFrom n (isListed M) least s p) (Two.Read a b next) Entered
-          made {a} {b} {second} {m} {third} {next} e f l y t k = answer-got tellRule {x = record { risers = pair a b; pairs = l }} (rw (two-got (pairFrom 4 (ordered n) least s p) e, number-got (count 0 most-pairs s second) f, y)) (ap₂ ruleTables t k)
+          made {a} {b} {second} {m} {third} {next} e f l y t k = answer-got tellRule {x = record { risers = pair a b; pairs = l }} (rw (two-got (pairFrom wrong-rule (ordered n) least s p) e, number-got (count 0 most-pairs s second) f, y)) (ap₂ ruleTables t k)
 
 -- the rule got has its risers in order
 pub rule-ordered : (n : ℕ) (M : List ℕ) (least : ℕ) (s : List ℕ) (p : ℕ) {P : Rule → Type 0} {r : Two} {u v next : ℕ} → Answers tellRule (ruleFrom n (isListed M) least s p) r P → r ≡ Two.Read u v next → (u < v) × (v < n)
 unfolding pairFrom ordered ruleThat
 rule-ordered n M least s p {P} {r} {u} {v} {next} a e =
     let z = rule-got a e in
-    let y = andThen-got (pairFrom 4 (ordered n) least s p) _ (z .1) in
+    let y = andThen-got (pairFrom wrong-rule (ordered n) least s p) _ (z .1) in
     let x = andThen-got (count 0 most-pairs s (y .1)) _ (y .3) in
     let w = andThen-got (many (allowedPair (isListed M (y .0 .left)) (isListed M (y .0 .right))) (x .0) [] s (x .1)) _ (x .3) in
     let same : _≡_ {A = Rule} (record { risers = y .0; pairs = w .0 }) (z .0) = cc (w .3) in
-    let t = moved (y .0) (ap (λ (r : Rule). r .risers) same ∙ z .3) (and-left (ordered n (y .0)) (leb least (key (y .0))) (checked-passed 4 (λ x. ordered n x && leb least (key x)) two s p (y .2) .0)) in
+    let t = moved (y .0) (ap (λ (r : Rule). r .risers) same ∙ z .3) (and-left (ordered n (y .0)) (leb least (key (y .0))) (checked-passed wrong-rule (λ x. ordered n x && leb least (key x)) two s p (y .2) .0)) in
     (ordered-left n u v t, ordered-right n u v t)
   where
     moved : (x : Pair) → x ≡ pair u v → ordered n x ≡ true → ordered n (pair u v) ≡ true
@@ -211,7 +212,7 @@ risers-snoc (y ∷ l) x = ap (λ (r : List Pair). y .risers ∷ r) (risers-snoc 
 rule-from : (n : ℕ) (M : List ℕ) (done : List Rule) (least : ℕ) (s : List ℕ) (p : ℕ) → n ≤ most-risers → Beyond least (riserPairs done) → rule n (isListed M) done s p ≡ ruleFrom n (isListed M) least s p
 unfolding ordered ruleThat Beyond
 rule-from n M done least s p w h =
-    ap (λ (t : Pair → Bool). andThen (checked 4 t two s p) (λ ab p′. andThen (count 0 most-pairs s p′) (λ m p″. andThen (many (allowedPair (isListed M (ab .left)) (isListed M (ab .right))) m [] s p″) (λ ps next. got (record { risers = ab; pairs = ps }) next))))
+    ap (λ (t : Pair → Bool). andThen (checked wrong-rule t two s p) (λ ab p′. andThen (count 0 most-pairs s p′) (λ m p″. andThen (many (allowedPair (isListed M (ab .left)) (isListed M (ab .right))) m [] s p″) (λ ps next. got (record { risers = ab; pairs = ps }) next))))
     (fun-ext (λ x. same-test (ordered n x) (after before (riserPairs done) x) (leb least (key x)) (λ (e : ordered n x ≡ true). h x (let k = ordered-right n (x .left) (x .right) e in omega arith))))
 
 pub record RulesSoFar (s : List ℕ) (from n m : ℕ) (M T₀ E₀ T E : List ℕ) (p least i : ℕ) : Type 0 where
@@ -234,7 +235,7 @@ module _ (s : List ℕ) (from n m : ℕ) (M T₀ E₀ : List ℕ) where
           lower = rw (risers-snoc (w .done) (z .0), z .3) (beyond-more (riserPairs (w .done)) (pair u v) (omega arith));
         }
 
-    pub rules-refused : {q g : ℕ} {P : List Rule → Type 0} → r ≡ Two.Refused q g → Answers tellSection (many (rule n (isListed M)) m [] s from) (Section.Refused q g) P
+    pub rules-refused : {f : Fault} {P : List Rule → Type 0} → r ≡ Two.Refused f → Answers tellSection (many (rule n (isListed M)) m [] s from) (Section.Refused f) P
     rules-refused e = filling-refused (rule n (isListed M)) putRule m s from (ruleTables T₀ E₀) (w .filling) l (rule-from n M (w .done) least s p small (w .lower) ∙ rule-refused a e)
 
   pub rules-end : (T E : List ℕ) (p least i : ℕ) → RulesSoFar s from n m M T₀ E₀ T E p least i → m ≤ i → Answers tellSection (many (rule n (isListed M)) m [] s from) (Section.Read p) (λ (l : List Rule). ruleTables T E ≡ markRules (ruleTables T₀ E₀) l)

@@ -5,7 +5,7 @@
 ghost use mathlib.Core.Path.{_≡_};
 ghost use mathlib.Core.List.{List, []};
 ghost use Prim.Native.Nat.{_≤_, _<_};
-ghost use Rattle.ground.specs.Meanings.Sheet.{many, Pair, Rule, allowedPair, rule, most-risers, most-rules};
+ghost use Rattle.ground.specs.Meanings.Sheet.{wrong-rule, wrong-pair, many, Pair, Rule, allowedPair, rule, most-risers, most-rules};
 ghost use Rattle.fields.specs.Tables.{isListed, markPairs, ruleTables, putRule, markRules};
 ghost use Rattle.fields.specs.Least.{pairFrom, bothListed, ordered, ruleFrom};
 ghost use Rattle.fields.specs.Answers.{Answers, tellSection, tellTwo, tellRule, tellCount};
@@ -19,28 +19,31 @@ use fields::two_at;
 use ground::ALLOWED;
 use ground::CARRIERS;
 use ground::ENDS;
+use ground::Fault;
 use ground::LISTED;
 use ground::PAIRS;
 use ground::RISERS;
 use ground::RULES;
+use ground::WRONG_PAIR;
+use ground::WRONG_RULE;
 
 // A rule's two risers, whose key is `least` or more.
 fn rule_risers(s: &[u8], at: usize, n: usize, least: usize) -> Two
     requires { ⌜ n ≤ most-risers ⌝ }
-    ensures { λ r. ⌜ r ≡ tellTwo (pairFrom 4 (ordered n) least (now (s .entry)) at) ⌝ }
+    ensures { λ r. ⌜ r ≡ tellTwo (pairFrom wrong-rule (ordered n) least (now (s .entry)) at) ⌝ }
 {
     match two_at(s, at) {
-        Two::Refused(number, place) => Two::Refused(number, place),
+        Two::Refused(fault) => Two::Refused(fault),
         Two::Read(a, b, next) => {
             if b <= a {
-                return Two::Refused(4, at);
+                return Two::Refused(Fault::of(WRONG_RULE, at));
             }
             if n <= b {
-                return Two::Refused(4, at);
+                return Two::Refused(Fault::of(WRONG_RULE, at));
             }
             let key = a * CARRIERS + b;
             if key < least {
-                return Two::Refused(4, at);
+                return Two::Refused(Fault::of(WRONG_RULE, at));
             }
             Two::Read(a, b, next)
         }
@@ -49,10 +52,10 @@ fn rule_risers(s: &[u8], at: usize, n: usize, least: usize) -> Two
 
 // An allowed pair of the risers a and b, whose key is `least` or more.
 fn pair_at(s: &[u8], at: usize, a: usize, b: usize, member: &[u8; LISTED], least: usize) -> Two
-    ensures { λ r. ⌜ r ≡ tellTwo (pairFrom 5 (bothListed (now (member .entry)) a b) least (now (s .entry)) at) ⌝ }
+    ensures { λ r. ⌜ r ≡ tellTwo (pairFrom wrong-pair (bothListed (now (member .entry)) a b) least (now (s .entry)) at) ⌝ }
 {
     match two_at(s, at) {
-        Two::Refused(number, place) => Two::Refused(number, place),
+        Two::Refused(fault) => Two::Refused(fault),
         Two::Read(u, v, next) => {
             let left = is_listed(member, a, u);
             if left {
@@ -60,13 +63,13 @@ fn pair_at(s: &[u8], at: usize, a: usize, b: usize, member: &[u8; LISTED], least
                 if right {
                     let key = u * CARRIERS + v;
                     if key < least {
-                        return Two::Refused(5, at);
+                        return Two::Refused(Fault::of(WRONG_PAIR, at));
                     }
                     return Two::Read(u, v, next);
                 }
-                return Two::Refused(5, at);
+                return Two::Refused(Fault::of(WRONG_PAIR, at));
             }
-            Two::Refused(5, at)
+            Two::Refused(Fault::of(WRONG_PAIR, at))
         }
     }
 }
@@ -89,8 +92,8 @@ fn read_pairs(
     let mut least = 0;
     for i in 0..count {
         match pair_at(s, at, a, b, member, least) {
-            Two::Refused(number, place) => {
-                return Section::Refused(number, place);
+            Two::Refused(fault) => {
+                return Section::Refused(fault);
             }
             Two::Read(u, v, next) => {
                 let key = u * CARRIERS + v;
@@ -118,12 +121,12 @@ fn read_rule(
     ensures { λ r. ⌜ Answers tellRule (ruleFrom n (isListed (now (member .entry))) least (now (s .entry)) at) r (λ (x : Rule). ruleTables (now (allowed .exit)) (now (ends .exit)) ≡ putRule (ruleTables (now (allowed .entry)) (now (ends .entry))) q x) ⌝ }
 {
     match rule_risers(s, at, n, least) {
-        Two::Refused(number, place) => Two::Refused(number, place),
+        Two::Refused(fault) => Two::Refused(fault),
         Two::Read(a, b, second) => match count_at(s, second, 0, PAIRS) {
-            Number::Refused(number, place) => Two::Refused(number, place),
+            Number::Refused(fault) => Two::Refused(fault),
             Number::Read(count, third) => {
                 match read_pairs(s, third, a, b, count, q, member, allowed) {
-                    Section::Refused(number, place) => Two::Refused(number, place),
+                    Section::Refused(fault) => Two::Refused(fault),
                     Section::Read(next) => {
                         ends[b * RISERS + a] = (q + 1) as u8;
                         Two::Read(a, b, next)
@@ -151,8 +154,8 @@ fn read_rules(
     let mut least = 0;
     for q in 0..count {
         match read_rule(s, at, n, q, least, member, allowed, ends) {
-            Two::Refused(number, place) => {
-                return Section::Refused(number, place);
+            Two::Refused(fault) => {
+                return Section::Refused(fault);
             }
             Two::Read(a, b, next) => {
                 least = a * CARRIERS + b + 1;
@@ -176,9 +179,9 @@ pub fn rules_section(
     ensures { λ r. ⌜ Answers tellCount (section 0 most-rules (rule n (isListed (now (member .entry)))) (now (s .entry)) at) r (λ (l : List Rule). ruleTables (now (allowed .exit)) (now (ends .exit)) ≡ markRules (ruleTables (now (allowed .entry)) (now (ends .entry))) l) ⌝ }
 {
     match count_at(s, at, 0, RULES) {
-        Number::Refused(number, place) => Number::Refused(number, place),
+        Number::Refused(fault) => Number::Refused(fault),
         Number::Read(rules, first) => match read_rules(s, first, n, rules, member, allowed, ends) {
-            Section::Refused(number, place) => Number::Refused(number, place),
+            Section::Refused(fault) => Number::Refused(fault),
             Section::Read(next) => Number::Read(rules, next),
         },
     }

@@ -1,4 +1,6 @@
 // The planner as a program: reads a job sheet from standard input, and prints its listing or its refusal.
+use ground::ACCEPTED;
+use ground::Fault;
 use ground::LONGEST;
 use listing::Answer;
 use listing::list;
@@ -34,8 +36,9 @@ fn report(sheet: &[u8]) {
     let mut bytes = [0u8; BYTES];
     let mut sizes = [0u64; SIZES];
     let answer = list(sheet, ALLOWANCE, &mut bytes, &mut sizes);
-    if answer.number != 0 {
-        print_refusal(answer);
+    let fault = answer.fault;
+    if fault.number != ACCEPTED {
+        print_refusal(fault);
         return;
     }
     print_listing(answer, &bytes, &sizes, risers(sheet));
@@ -55,12 +58,12 @@ fn risers(sheet: &[u8]) -> usize {
 }
 
 // Prints the number and the place of a refusal, on a page that has room for one line.
-fn print_refusal(answer: Answer) {
+fn print_refusal(fault: Fault) {
     let mut line = [0u8; LINE];
     let mut at = put(&mut line, 0, b"refused ");
-    at = put_number(&mut line, at, wide(answer.number) as u64);
+    at = put_number(&mut line, at, wide(fault.number) as u64);
     at = put(&mut line, at, b" at ");
-    at = put_number(&mut line, at, answer.place as u64);
+    at = put_number(&mut line, at, fault.place as u64);
     end_line(&mut line, at, LINE);
 }
 

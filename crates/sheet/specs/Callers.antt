@@ -17,6 +17,7 @@ use native.Mathlib.Omega.{arith}
 use lib.ListN.{length, take, drop, replicate, length-map, length-append, length-replicate}
 use lib.Seq.{ext-getD, take-at}
 use Rattle.ground.specs.Meanings.Group.{at, identity, In}
+use Rattle.ground.specs.declared.Fault.{Fault}
 use Rattle.ground.specs.Meanings.Sheet.{Outcome, got, refused, Sheet, jobSheet, listedIn, allowedBy, Accepted, Refused, most-carriers, most-risers, most-rules, most-pairs, most-swaps}
 use Rattle.ground.specs.Laws.Members.{Perms}
 use Rattle.ground.specs.Laws.Padding.{pad}
@@ -43,14 +44,14 @@ module _ {s : List ℕ} {r : Head} {member allowed ends : List ℕ} {swaps : Lis
     where
       go : (o : Outcome Sheet) → jobSheet s 0 ≡ o → tellSheet o ≡ Head.Accepted k n m c → AcceptedAs s k n m c member allowed ends swaps
       go (got X p) f h = record { sheet = X; accepted = record { end = p; read = f }; carriers = cc; risers = cc; rules = cc; swaps-number = cc; serves = a .serves X p f }
-      go (refused q w) f h = absurd (let b : _≡_ {A = ℕ} 0 1 = cc in omega arith)
+      go (refused x) f h = absurd (let b : _≡_ {A = ℕ} 0 1 = cc in omega arith)
 
-  pub refused-as : {q w : ℕ} → r ≡ Head.Refused q w → Refused s q w × Blank member allowed ends swaps
-  refused-as {q} {w} e = go (jobSheet s 0) refl (sym (a .told) ∙ e)
+  pub refused-as : {f : Fault} → r ≡ Head.Refused f → Refused s f × Blank member allowed ends swaps
+  refused-as {f} e = go (jobSheet s 0) refl (sym (a .told) ∙ e)
     where
-      go : (o : Outcome Sheet) → jobSheet s 0 ≡ o → tellSheet o ≡ Head.Refused q w → Refused s q w × Blank member allowed ends swaps
+      go : (o : Outcome Sheet) → jobSheet s 0 ≡ o → tellSheet o ≡ Head.Refused f → Refused s f × Blank member allowed ends swaps
       go (got X p) f h = absurd (let b : _≡_ {A = ℕ} 0 1 = cc in omega arith)
-      go (refused x y) f h = (record { read = f ∙ cc }, a .blank x y f)
+      go (refused x) g h = (record { read = g ∙ cc }, a .blank x g)
 
 -- ---- what an entry says
 
@@ -179,4 +180,4 @@ reads-once {s} {p} {r} {r′} {M} {T} {E} {M′} {T′} {E′} {G} {G′} z z′
 
     go : (o : Outcome Sheet) → jobSheet s p ≡ o → Same r r′ M T E M′ T′ E′ G G′
     go (got X e) f = serves-once told z z′ (a .serves X e f) (a′ .serves X e f)
-    go (refused q w) f = blank-once told z z′ (a .blank q w f) (a′ .blank q w f)
+    go (refused x) f = blank-once told z z′ (a .blank x f) (a′ .blank x f)

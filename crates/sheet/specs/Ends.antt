@@ -133,11 +133,11 @@ ascends-more n done x small a o f =
 rule-passed : (n : ℕ) (listed : ℕ → ℕ → Bool) (done : List Rule) (s : List ℕ) (p : ℕ) {x : Rule} {next : ℕ} → rule n listed done s p ≡ got x next → (ordered n (x .risers) ≡ true) × (after before (riserPairs done) (x .risers) ≡ true)
 unfolding ordered ruleThat
 rule-passed n listed done s p {x} {next} e =
-    let z = andThen-got (checked 4 test two s p) _ e in
+    let z = andThen-got (checked _ test two s p) _ e in
     let y = andThen-got (count 0 most-pairs s (z .1)) _ (z .3) in
     let w = andThen-got (many (allowedPair (listed (z .0 .left)) (listed (z .0 .right))) (y .0) [] s (y .1)) _ (y .3) in
     let same : _≡_ {A = Rule} (record { risers = z .0; pairs = w .0 }) x = cc (w .3) in
-    let t = subst (λ (r : Rule). test (r .risers) ≡ true) same (checked-passed 4 test two s p (z .2) .0) in
+    let t = subst (λ (r : Rule). test (r .risers) ≡ true) same (checked-passed _ test two s p (z .2) .0) in
     (and-left (ordered n (x .risers)) (after before (riserPairs done) (x .risers)) t, and-right (ordered n (x .risers)) (after before (riserPairs done) (x .risers)) t)
   where
     test : Pair → Bool

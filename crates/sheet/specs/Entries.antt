@@ -237,15 +237,15 @@ pub lists-small : (k : ℕ) (s : List ℕ) (n p : ℕ) {ls : List (List ℕ)} {n
 unfolding riser carrier
 lists-small k s n p {ls} {next} w e = many-all Carriers (riser k) s (λ done a x q f.
     let z = andThen-got (count 1 k s a) _ f in
-    many-all (λ x. x < most-carriers) (carrier k) s (λ d b c r g. let t = checked-passed 3 _ byte s b g in let h = ltb-true c k (and-right (after ltb d c) (ltb c k) (t .0)) in omega arith) (z .0) [] (z .1) x q tt (z .3)) n [] p ls next tt e
+    many-all (λ x. x < most-carriers) (carrier k) s (λ d b c r g. let t = checked-passed _ _ byte s b g in let h = ltb-true c k (and-right (after ltb d c) (ltb c k) (t .0)) in omega arith) (z .0) [] (z .1) x q tt (z .3)) n [] p ls next tt e
 
 pub rules-small : (n : ℕ) (M : List ℕ) (s : List ℕ) (m p : ℕ) {rs : List Rule} {next : ℕ} → many (rule n (isListed M)) m [] s p ≡ got rs next → All CarrierPairs rs
 unfolding ruleThat allowedPair
 rules-small n M s m p {rs} {next} e = many-all CarrierPairs (rule n (isListed M)) s (λ done a x q f.
-    let z = andThen-got (checked 4 _ two s a) _ f in
+    let z = andThen-got (checked _ _ two s a) _ f in
     let y = andThen-got (count 0 most-pairs s (z .1)) _ (z .3) in
     let w = andThen-got (many (allowedPair (isListed M (z .0 .left)) (isListed M (z .0 .right))) (y .0) [] s (y .1)) _ (y .3) in
     let i : _≡_ {A = Rule} (record { risers = z .0; pairs = w .0 }) x = cc (w .3) in
     subst CarrierPairs i (many-all CarrierPair (allowedPair (isListed M (z .0 .left)) (isListed M (z .0 .right))) s (λ d b c r g.
-    let t = and-left (isListed M (z .0 .left) (c .left) && isListed M (z .0 .right) (c .right)) (after before d c) (checked-passed 5 _ two s b g .0) in
+    let t = and-left (isListed M (z .0 .left) (c .left) && isListed M (z .0 .right) (c .right)) (after before d c) (checked-passed _ _ two s b g .0) in
     (listed-small M (z .0 .left) (c .left) (and-left (isListed M (z .0 .left) (c .left)) (isListed M (z .0 .right) (c .right)) t), listed-small M (z .0 .right) (c .right) (and-right (isListed M (z .0 .left) (c .left)) (isListed M (z .0 .right) (c .right)) t))) (y .0) [] (y .1) (w .0) (w .1) tt (w .2))) m [] p rs next tt e

@@ -5,7 +5,7 @@
 --   Reads s p r member allowed ends swaps   r answers what the definition says of the sheet at place p of s, and the tables
 --                                           are those of the sheet, or blank where it is refused
 --   tellSheet o                             the answer for an outcome o of the whole sheet: its numbers of carriers, risers, rules
---                                           and swaps, or number and place of the refusal
+--                                           and swaps, or the fault
 --   bit b                                   1 for yes, 0 for no
 --   risersOf X q                            the two risers of rule q
 --
@@ -17,6 +17,7 @@ use mathlib.Core.List.{List, map, _++_}
 use Prim.Native.Nat.{ℕ, _+_, _*_, _-_, _<_}
 use lib.ListN.{length, getD, replicate}
 use Rattle.ground.specs.Meanings.Group.{at, identity}
+use Rattle.ground.specs.declared.Fault.{Fault}
 use Rattle.ground.specs.Meanings.Sheet.{Outcome, got, refused, jobSheet, Sheet, Pair, noRule, listedIn, allowedBy, most-carriers, most-risers, most-rules, most-pairs, most-swaps}
 use Rattle.sheet.specs.declared.Head.{Head}
 use Rattle.fields.specs.Tables.{isListed, isAllowed, padded}
@@ -29,7 +30,7 @@ risersOf X q = getD (X .rules) q noRule .risers
 
 abbrev pub tellSheet : Outcome Sheet → Head
 tellSheet (got X p) = Head.Accepted (X .carriers) (length (X .lists)) (length (X .rules)) (length (X .swaps))
-tellSheet (refused q p) = Head.Refused q p
+tellSheet (refused f) = Head.Refused f
 
 pub record Serves (X : Sheet) (member allowed ends : List ℕ) (swaps : List (List ℕ)) : Type 0 where
   -- as the code asks them
@@ -51,4 +52,4 @@ pub record Blank (member allowed ends : List ℕ) (swaps : List (List ℕ)) : Ty
 pub record Reads (s : List ℕ) (p : ℕ) (r : Head) (member allowed ends : List ℕ) (swaps : List (List ℕ)) : Type 0 where
   pub told : r ≡ tellSheet (jobSheet s p)
   pub serves : (X : Sheet) (end : ℕ) → jobSheet s p ≡ got X end → Serves X member allowed ends swaps
-  pub blank : (number place : ℕ) → jobSheet s p ≡ refused number place → Blank member allowed ends swaps
+  pub blank : (f : Fault) → jobSheet s p ≡ refused f → Blank member allowed ends swaps

@@ -14,7 +14,8 @@ use lib.ListN.{length, length-append, replicate}
 use lib.Seq.{set-append-seam}
 use borrow.Author.Tests.{eq-eqb, ne-eqb}
 use Rattle.ground.specs.Meanings.Group.{identity}
-use Rattle.ground.specs.Meanings.Sheet.{Outcome, got, refused, andThen, many, count, riser, rule, Rule, swap, nothingMore, listedIn, allowedBy, Sheet, jobSheet, most-carriers, most-risers, most-rules, most-pairs, most-swaps}
+use Rattle.ground.specs.declared.Fault.{Fault}
+use Rattle.ground.specs.Meanings.Sheet.{bytes-follow, fault, Outcome, got, refused, andThen, many, count, riser, rule, Rule, swap, nothingMore, listedIn, allowedBy, Sheet, jobSheet, most-carriers, most-risers, most-rules, most-pairs, most-swaps}
 use Rattle.ground.specs.Laws.Reading.{All, andThen-got}
 use Rattle.fields.specs.declared.Number.{Number}
 use Rattle.sheet.specs.declared.Head.{Head}
@@ -65,7 +66,7 @@ pub record GotCarriers (s : List ℕ) (p k p₁ : ℕ) : Type 0 where
   pub few : k ≤ most-carriers
 
 module _ (s : List ℕ) (p : ℕ) where
-  pub no-carriers : {q w : ℕ} → Number.Refused q w ≡ tellNumber (count 1 most-carriers s p) → jobSheet s p ≡ refused q w
+  pub no-carriers : {f : Fault} → Number.Refused f ≡ tellNumber (count 1 most-carriers s p) → jobSheet s p ≡ refused f
   no-carriers e = whole s p ∙ rw (number-refused (count 1 most-carriers s p) e)
 
   pub carriers-got : {k p₁ : ℕ} → Number.Read k p₁ ≡ tellNumber (count 1 most-carriers s p) → GotCarriers s p k p₁
@@ -88,7 +89,7 @@ unfolding section
 section-small k s p w e = let z = andThen-got (count 1 most-risers s p) _ e in lists-small k s (z .0) (z .1) w (z .3)
 
 module _ (s : List ℕ) (p : ℕ) {k p₁ : ℕ} (C : GotCarriers s p k p₁) (M₀ : List ℕ) {M : List ℕ} {r : Number} (a : Answers tellCount (section 1 most-risers (riser k) s p₁) r (λ (l : List (List ℕ)). M ≡ markLists M₀ l)) where
-  pub no-risers : {q w : ℕ} → r ≡ Number.Refused q w → jobSheet s p ≡ refused q w
+  pub no-risers : {f : Fault} → r ≡ Number.Refused f → jobSheet s p ≡ refused f
   no-risers e = whole s p ∙ rw (C .read, count-refused a e)
 
   pub risers-got : {n p₂ : ℕ} → M₀ ≡ replicate (most-risers * most-carriers) 0 → r ≡ Number.Read n p₂ → GotRisers s p k n p₂ M
@@ -137,7 +138,7 @@ module _ (s : List ℕ) (p : ℕ) {k n p₂ : ℕ} {M : List ℕ} (L : GotRisers
   same-rules : section 0 most-rules (rule n (listedIn (L .ls))) s p₂ ≡ section 0 most-rules (rule n (isListed M)) s p₂
   same-rules = ap (λ (f : ℕ → ℕ → Bool). section 0 most-rules (rule n f) s p₂) (sym (says-listed L))
 
-  pub no-rules : {q w : ℕ} → r ≡ Number.Refused q w → jobSheet s p ≡ refused q w
+  pub no-rules : {f : Fault} → r ≡ Number.Refused f → jobSheet s p ≡ refused f
   no-rules e = risers-read L ∙ rw (same-rules ∙ count-refused a e)
 
   pub rules-got : {m p₃ : ℕ} → T₀ ≡ replicate (most-rules * most-pairs) 0 → E₀ ≡ replicate (most-risers * most-risers) 0 → r ≡ Number.Read m p₃ → GotRules s p k n m p₃ M T E
@@ -186,7 +187,7 @@ module _ (s : List ℕ) (p : ℕ) {k n m p₃ : ℕ} {M T E : List ℕ} (R : Got
   same-swaps : section 0 most-swaps (swap k n m (listedIn (R .risers .ls)) (allowedBy (R .rs))) s p₃ ≡ section 0 most-swaps (swap k n m (isListed M) (isAllowed T)) s p₃
   same-swaps = ap₂ (λ (f : ℕ → ℕ → Bool) (h : ℕ → ℕ → ℕ → Bool). section 0 most-swaps (swap k n m f h) s p₃) (sym (says-listed (R .risers))) (sym (says-allowed R))
 
-  pub no-swaps : {q w : ℕ} → r ≡ Number.Refused q w → jobSheet s p ≡ refused q w
+  pub no-swaps : {f : Fault} → r ≡ Number.Refused f → jobSheet s p ≡ refused f
   no-swaps e = rules-read R ∙ rw (same-swaps ∙ count-refused a e)
 
   pub swaps-got : {c p₄ : ℕ} → G₀ ≡ replicate most-swaps (identity most-carriers) → r ≡ Number.Read c p₄ → GotSwaps s p k n m c p₄ M T E G
@@ -207,7 +208,7 @@ module _ (s : List ℕ) (p : ℕ) {k n m c p₄ : ℕ} {M T E : List ℕ} {G : L
   swaps-read : jobSheet s p ≡ last s k (W .rules .risers .ls) (W .rules .rs) (W .gs) p₄
   swaps-read = rules-read (W .rules) ∙ rw (W .read)
 
-  pub more-bytes : (p₄ ≡ length s → ⊥) → jobSheet s p ≡ refused 9 p₄
+  pub more-bytes : (p₄ ≡ length s → ⊥) → jobSheet s p ≡ refused (fault bytes-follow p₄)
   unfolding nothingMore
   more-bytes e = swaps-read ∙ rw (ne-eqb p₄ (length s) e)
 
@@ -242,7 +243,7 @@ module _ (s : List ℕ) (p : ℕ) {k n m c p₄ : ℕ} {M T E : List ℕ} {G : L
 
 module _ {s : List ℕ} {p : ℕ} {M T E : List ℕ} {G : List (List ℕ)} {r : Head} (a : Answers tellSheet (jobSheet s p) r (λ (X : Sheet). Serves X M T E G)) where
   pub reads-accepted : {k n m c : ℕ} → r ≡ Head.Accepted k n m c → Reads s p (Head.Accepted k n m c) M T E G
-  reads-accepted e = record { told = sym e ∙ a .told; serves = a .leaves; blank = λ q w f. absurd (let z : _ ≡ Head.Refused q w = sym e ∙ a .told ∙ ap tellSheet f in let b : _≡_ {A = ℕ} 0 1 = cc in omega arith) }
+  reads-accepted e = record { told = sym e ∙ a .told; serves = a .leaves; blank = λ f h. absurd (let z : _ ≡ Head.Refused f = sym e ∙ a .told ∙ ap tellSheet h in let b : _≡_ {A = ℕ} 0 1 = cc in omega arith) }
 
-  pub reads-refused : {M′ T′ E′ : List ℕ} {G′ : List (List ℕ)} {q w : ℕ} → r ≡ Head.Refused q w → Blank M′ T′ E′ G′ → Reads s p (Head.Refused q w) M′ T′ E′ G′
-  reads-refused {q = q} {w = w} e b = record { told = sym e ∙ a .told; serves = λ X n f. absurd (let z : Head.Refused q w ≡ tellSheet (got X n) = sym e ∙ a .told ∙ ap tellSheet f in let b : _≡_ {A = ℕ} 0 1 = cc in omega arith); blank = λ _ _ _. b }
+  pub reads-refused : {M′ T′ E′ : List ℕ} {G′ : List (List ℕ)} {f : Fault} → r ≡ Head.Refused f → Blank M′ T′ E′ G′ → Reads s p (Head.Refused f) M′ T′ E′ G′
+  reads-refused {f = f} e b = record { told = sym e ∙ a .told; serves = λ X n h. absurd (let z : Head.Refused f ≡ tellSheet (got X n) = sym e ∙ a .told ∙ ap tellSheet h in let b : _≡_ {A = ℕ} 0 1 = cc in omega arith); blank = λ _ _. b }

@@ -16,7 +16,8 @@ use lib.ListN.{length, getD, set, take, drop, length-drop, List·getD-append}
 use lib.Seq.{take-suc, drop-cons, length-take-le, set-at, getD-drop}
 use borrow.Author.Tests.{le-leb}
 use Rattle.ground.specs.Meanings.Group.{at, identity}
-use Rattle.ground.specs.Meanings.Sheet.{Outcome, got, Reading, checked, field, many, each, implies, allNew, keepsCarrier, keepsLists, keepsPair, keepsRules, swap, most-carriers}
+use Rattle.ground.specs.declared.Fault.{Fault}
+use Rattle.ground.specs.Meanings.Sheet.{sheet-ends, no-permutation, list-not-kept, rule-not-kept, fault, Outcome, got, refused, Reading, checked, field, many, each, implies, allNew, keepsCarrier, keepsLists, keepsPair, keepsRules, swap, most-carriers}
 use Rattle.ground.specs.Laws.Permutations.{perm-identity}
 use Rattle.ground.specs.Laws.Reading.{field-in, field-out, checked-got, checked-bad, checked-refused}
 use Rattle.fields.specs.declared.Section.{Section}
@@ -65,17 +66,17 @@ module _ (k n m : ℕ) (M T : List ℕ) (s : List ℕ) (p : ℕ) where
   abbrev Swap : Outcome (List ℕ)
   Swap = swap k n m (isListed M) (isAllowed T) [] s p
 
-  pub swap-short : {P : List ℕ → Type 0} → length s < p + k → Answers tellSection Swap (Section.Refused 1 p) P
+  pub swap-short : {P : List ℕ → Type 0} {f : Fault} → length s < p + k → f ≡ fault sheet-ends p → Answers tellSection Swap (Section.Refused f) P
   unfolding swap
-  swap-short h = answer-refused tellSection (checked-refused 8 _ _ s p (checked-refused 7 _ _ s p (checked-refused 6 _ (field k) s p (field-out k s p h))))
+  swap-short h e = answer-refused tellSection (checked-refused rule-not-kept _ _ s p (checked-refused list-not-kept _ _ s p (checked-refused no-permutation _ (field k) s p (field-out k s p h))) ∙ ap refused (sym e))
 
   module _ (l : p + k ≤ length s) (small : k ≤ most-carriers) where
     abbrev g : List ℕ
     g = take k (drop p s)
 
-    pub swap-6 : {P : List ℕ → Type 0} → allNew k [] g ≡ false → Answers tellSection Swap (Section.Refused 6 p) P
+    pub swap-6 : {P : List ℕ → Type 0} {f : Fault} → allNew k [] g ≡ false → f ≡ fault no-permutation p → Answers tellSection Swap (Section.Refused f) P
     unfolding swap
-    swap-6 h = answer-refused tellSection (checked-refused 8 _ _ s p (checked-refused 7 _ _ s p (checked-bad 6 _ (field k) s p (field-in k s p l) h)))
+    swap-6 h e = answer-refused tellSection (checked-refused rule-not-kept _ _ s p (checked-refused list-not-kept _ _ s p (checked-bad no-permutation _ (field k) s p (field-in k s p l) h)) ∙ ap refused (sym e))
 
     module _ (six : allNew k [] g ≡ true) (G : List ℕ) (e : G ≡ padded most-carriers g) where
       same-at : (c : ℕ) → c < k → at g c ≡ at G c
@@ -90,24 +91,24 @@ module _ (k n m : ℕ) (M T : List ℕ) (s : List ℕ) (p : ℕ) where
       unfolding keepsPair
       same-rules = ap (λ (t : ℕ → Bool). each m t) (fun-ext (λ q. ap (λ (x : ℕ). eqb x k) (first-same (λ u. each k (keepsPair (isAllowed T q) g u)) (λ u. each k (keepsPair (isAllowed T q) G u)) k (λ u h. ap (λ (x : ℕ). eqb x k) (first-same (keepsPair (isAllowed T q) g u) (keepsPair (isAllowed T q) G u) k (λ v f. ap₂ (λ (a b : ℕ). implies (isAllowed T q u v) (isAllowed T q a b)) (same-at u h) (same-at v f)))))))
 
-      read6 : checked 6 (allNew k []) (field k) s p ≡ got g (p + k)
-      read6 = checked-got 6 (allNew k []) (field k) s p (field-in k s p l) six
+      read6 : checked no-permutation (allNew k []) (field k) s p ≡ got g (p + k)
+      read6 = checked-got no-permutation (allNew k []) (field k) s p (field-in k s p l) six
 
-      pub swap-7 : {P : List ℕ → Type 0} → keepsLists k n (isListed M) G ≡ false → Answers tellSection Swap (Section.Refused 7 p) P
+      pub swap-7 : {P : List ℕ → Type 0} {f : Fault} → keepsLists k n (isListed M) G ≡ false → f ≡ fault list-not-kept p → Answers tellSection Swap (Section.Refused f) P
       unfolding swap
-      swap-7 h = answer-refused tellSection (checked-refused 8 _ _ s p (checked-bad 7 _ _ s p read6 (same-lists ∙ h)))
+      swap-7 h f = answer-refused tellSection (checked-refused rule-not-kept _ _ s p (checked-bad list-not-kept _ _ s p read6 (same-lists ∙ h)) ∙ ap refused (sym f))
 
       module _ (seven : keepsLists k n (isListed M) G ≡ true) where
-        read7 : checked 7 (keepsLists k n (isListed M)) (checked 6 (allNew k []) (field k)) s p ≡ got g (p + k)
-        read7 = checked-got 7 (keepsLists k n (isListed M)) _ s p read6 (same-lists ∙ seven)
+        read7 : checked list-not-kept (keepsLists k n (isListed M)) (checked no-permutation (allNew k []) (field k)) s p ≡ got g (p + k)
+        read7 = checked-got list-not-kept (keepsLists k n (isListed M)) _ s p read6 (same-lists ∙ seven)
 
-        pub swap-8 : {P : List ℕ → Type 0} → keepsRules k m (isAllowed T) G ≡ false → Answers tellSection Swap (Section.Refused 8 p) P
+        pub swap-8 : {P : List ℕ → Type 0} {f : Fault} → keepsRules k m (isAllowed T) G ≡ false → f ≡ fault rule-not-kept p → Answers tellSection Swap (Section.Refused f) P
         unfolding swap
-        swap-8 h = answer-refused tellSection (checked-bad 8 _ _ s p read7 (same-rules ∙ h))
+        swap-8 h f = answer-refused tellSection (checked-bad rule-not-kept _ _ s p read7 (same-rules ∙ h) ∙ ap refused (sym f))
 
         pub swap-is : (t : List (List ℕ)) (i : ℕ) → keepsRules k m (isAllowed T) G ≡ true → Answers tellSection Swap (Section.Read (p + k)) (λ (x : List ℕ). set t i G ≡ putSwap t i x)
         unfolding swap putSwap
-        swap-is t i h = answer-got tellSection (checked-got 8 (keepsRules k m (isAllowed T)) _ s p read7 (same-rules ∙ h)) (ap (λ (x : List ℕ). set t i x) e)
+        swap-is t i h = answer-got tellSection (checked-got rule-not-kept (keepsRules k m (isAllowed T)) _ s p read7 (same-rules ∙ h)) (ap (λ (x : List ℕ). set t i x) e)
 
 -- ---- all swaps
 
@@ -136,7 +137,7 @@ module _ (s : List ℕ) (from k n m c : ℕ) (M T : List ℕ) (t₀ : List (List
           filling = subst (λ (X : List (List ℕ)). Filling one putSwap c s from t₀ X next (i + 1) (v .done ++ (z .0 ∷ []))) (sym (z .2)) (filling-more one putSwap c s from t₀ (v .filling) l (swap-any k n m M T s p (v .done) ∙ z .1));
         }
 
-    pub swaps-refused : {q w : ℕ} {P : List (List ℕ) → Type 0} → r ≡ Section.Refused q w → Answers tellSection (many one c [] s from) (Section.Refused q w) P
+    pub swaps-refused : {f : Fault} {P : List (List ℕ) → Type 0} → r ≡ Section.Refused f → Answers tellSection (many one c [] s from) (Section.Refused f) P
     swaps-refused e = filling-refused one putSwap c s from t₀ (v .filling) l (swap-any k n m M T s p (v .done) ∙ section-refused a e)
 
   pub swaps-end : (t : List (List ℕ)) (p i : ℕ) → SwapsSoFar s from k n m c M T t₀ t p i → c ≤ i → Answers tellSection (many one c [] s from) (Section.Read p) (λ (l : List (List ℕ)). t ≡ putAll putSwap t₀ 0 l)

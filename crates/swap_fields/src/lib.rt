@@ -13,7 +13,12 @@ use fields::Section;
 use fields::count_at;
 use ground::ALLOWED;
 use ground::CARRIERS;
+use ground::Fault;
+use ground::LIST_NOT_KEPT;
 use ground::LISTED;
+use ground::NO_PERMUTATION;
+use ground::RULE_NOT_KEPT;
+use ground::SHEET_ENDS;
 use ground::SWAPS;
 use swap_tests::first_riser_out;
 use swap_tests::first_rule_out;
@@ -47,24 +52,24 @@ fn read_swap(
     ensures { λ r. ⌜ Answers tellSection (swap k n rules (isListed (now (member .entry))) (isAllowed (now (allowed .entry))) [] (now (s .entry)) at) r (λ (g : List ℕ). now (swaps .exit) ≡ putSwap (now (swaps .entry)) i g) ⌝ }
 {
     if s.len() < at {
-        return Section::Refused(1, at);
+        return Section::Refused(Fault::of(SHEET_ENDS, at));
     }
     if s.len() - at < k {
-        return Section::Refused(1, at);
+        return Section::Refused(Fault::of(SHEET_ENDS, at));
     }
     let end = at + k;
     let permutation = swaps::is_permutation(&s[at..end]);
     if !permutation {
-        return Section::Refused(6, at);
+        return Section::Refused(Fault::of(NO_PERMUTATION, at));
     }
     let g = padded_swap(s, at, k);
     let r = first_riser_out(g, k, n, member);
     if r != n {
-        return Section::Refused(7, at);
+        return Section::Refused(Fault::of(LIST_NOT_KEPT, at));
     }
     let q = first_rule_out(g, k, rules, allowed);
     if q != rules {
-        return Section::Refused(8, at);
+        return Section::Refused(Fault::of(RULE_NOT_KEPT, at));
     }
     swaps[i] = g;
     Section::Read(end)
@@ -88,8 +93,8 @@ fn read_swaps(
     let mut at = from;
     for i in 0..count {
         match read_swap(s, at, k, n, rules, i, member, allowed, swaps) {
-            Section::Refused(number, place) => {
-                return Section::Refused(number, place);
+            Section::Refused(fault) => {
+                return Section::Refused(fault);
             }
             Section::Read(next) => {
                 at = next;
@@ -114,10 +119,10 @@ pub fn swaps_section(
     ensures { λ r. ⌜ Answers tellCount (section 0 most-swaps (swap k n rules (isListed (now (member .entry))) (isAllowed (now (allowed .entry)))) (now (s .entry)) at) r (λ (l : List (List ℕ)). now (swaps .exit) ≡ putAll putSwap (now (swaps .entry)) 0 l) ⌝ }
 {
     match count_at(s, at, 0, SWAPS) {
-        Number::Refused(number, place) => Number::Refused(number, place),
+        Number::Refused(fault) => Number::Refused(fault),
         Number::Read(count, first) => {
             match read_swaps(s, first, k, n, rules, count, member, allowed, swaps) {
-                Section::Refused(number, place) => Number::Refused(number, place),
+                Section::Refused(fault) => Number::Refused(fault),
                 Section::Read(next) => Number::Read(count, next),
             }
         }

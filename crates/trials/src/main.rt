@@ -21,6 +21,8 @@
 // A further kind is a row above, a number below, an arm of `answer`, and a function like `listing_trial`.
 ghost use Prim.Native.Nat.{_≤_};
 use folding::fold;
+use ground::ACCEPTED;
+use ground::Fault;
 use ground::LONGEST;
 use listing::list;
 use text::end_line;
@@ -170,8 +172,7 @@ fn row_trial(head: &[u8; HEAD], sheet: &[u8], row: &[u8]) -> bool {
 fn print_listing(sheet: &[u8], allowance: u64, bytes: &mut [u8], sizes: &mut [u64]) {
     let answer = list(sheet, allowance, bytes, sizes);
     let mut line = [0u8; LINE];
-    let mut at = put_number(&mut line, 0, number(answer.number));
-    at = put_next(&mut line, at, answer.place as u64);
+    let mut at = put_fault(&mut line, answer.fault);
     at = put_next(&mut line, at, answer.listed as u64);
     at = put_next(&mut line, at, answer.opened);
     at = put_next(&mut line, at, answer.total);
@@ -184,11 +185,11 @@ fn print_listing(sheet: &[u8], allowance: u64, bytes: &mut [u8], sizes: &mut [u6
 fn print_folding(sheet: &[u8], row: &[u8], first: &mut [u8], member: &mut [u8]) {
     let answer = fold(sheet, row, first, member);
     let mut line = [0u8; LINE];
-    let mut at = put_number(&mut line, 0, number(answer.number));
-    at = put_next(&mut line, at, answer.place);
+    let fault = answer.fault;
+    let mut at = put_fault(&mut line, fault);
     at = put_next(&mut line, at, answer.size);
     at = put_bytes(&mut line, at, first);
-    at = put_member(&mut line, at, member, row, answer.number);
+    at = put_member(&mut line, at, member, row, fault.number);
     end_line(&mut line, at, LINE);
 }
 
@@ -238,6 +239,12 @@ fn fill_sizes(sizes: &mut [u64], from: u8) {
     }
 }
 
+// Puts the number and the place of an answer at the start of the line.
+fn put_fault(line: &mut [u8], fault: Fault) -> usize {
+    let next = put_number(line, 0, number(fault.number));
+    put_next(line, next, fault.place as u64)
+}
+
 // Puts a space and a number into the line.
 fn put_next(line: &mut [u8], at: usize, n: u64) -> usize {
     let next = put(line, at, b" ");
@@ -278,7 +285,7 @@ fn put_sizes(line: &mut [u8], at: usize, sizes: &[u64]) -> usize {
 
 // Puts the member's buffer into the line; where the number is 0, what it makes of the row and whether it is a permutation.
 fn put_member(line: &mut [u8], at: usize, member: &[u8], row: &[u8], number: u8) -> usize {
-    if number != 0 {
+    if number != ACCEPTED {
         return put_bytes(line, at, member);
     }
     let next = put_moved(line, at, member, row);

@@ -26,8 +26,9 @@ fn wide(carrier: u8) -> u64 {
 // Folds the row and prints what is left.
 fn print_fold(sheet: &[u8], row: &[u8], first: &mut [u8], member: &mut [u8]) {
     let answer = folding::fold(sheet, row, first, member);
-    io::print_decimal(STDOUT_FILENO, wide(answer.number));
-    print_number(answer.place);
+    let fault = answer.fault;
+    io::print_decimal(STDOUT_FILENO, wide(fault.number));
+    print_number(fault.place as u64);
     print_number(answer.size);
     print_carriers(first);
     print_carriers(member);

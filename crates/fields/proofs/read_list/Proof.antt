@@ -21,11 +21,11 @@ loop-holds c = list-starts _ _ _ _ _ _
 number-at-requires : tie.Need-number-at-requires Inv-loop μ-loop
 number-at-requires c κs = search needs
 
-enum-known-number : tie.Need-enum-known-number Inv-loop μ-loop
-enum-known-number c = search needs
+enum-known-fault : tie.Need-enum-known-fault Inv-loop μ-loop
+enum-known-fault c = search needs
 
 returns : tie.Need-returns Inv-loop μ-loop
-returns c = list-refused _ _ _ _ _ _ _ _ _ _ (c .before .before .before .before .before .loop .inv) (c .before .before .before .before .loop-test .taken) (sym (c .before .number .given .1) ∙ c .before .before .before .number-at .ensures)
+returns c = list-refused _ _ _ _ _ _ _ _ _ _ (c .before .before .before .before .before .loop .inv) (c .before .before .before .before .loop-test .taken) (sym (c .before .fault .given .1) ∙ c .before .before .before .number-at .ensures)
 
 enum-known-c : tie.Need-enum-known-c Inv-loop μ-loop
 enum-known-c c = search needs
@@ -62,7 +62,7 @@ read-list-spec =
     μ-loop
     loop-holds
     number-at-requires
-    enum-known-number
+    enum-known-fault
     returns
     enum-known-c
     mul-member

@@ -19,11 +19,11 @@ loop-holds c = risers-start _ _ _ _ _
 read-riser-requires : tie.Need-read-riser-requires Inv-loop μ-loop
 read-riser-requires c κs = omega (arith, c .before .before .before .before .pre)
 
-enum-known-number : tie.Need-enum-known-number Inv-loop μ-loop
-enum-known-number c = search needs
+enum-known-fault : tie.Need-enum-known-fault Inv-loop μ-loop
+enum-known-fault c = search needs
 
 returns : tie.Need-returns Inv-loop μ-loop
-returns c = risers-refused _ _ _ _ _ _ _ _ (c .before .before .before .before .before .before .loop .inv) (c .before .before .before .before .before .loop-test .taken) (c .before .before .before .read-riser .ensures) (c .before .number .given .1)
+returns c = risers-refused _ _ _ _ _ _ _ _ (c .before .before .before .before .before .before .loop .inv) (c .before .before .before .before .before .loop-test .taken) (c .before .before .before .read-riser .ensures) (c .before .fault .given .1)
 
 enum-known-next : tie.Need-enum-known-next Inv-loop μ-loop
 enum-known-next c = search needs
@@ -48,7 +48,7 @@ read-lists-spec =
     μ-loop
     loop-holds
     read-riser-requires
-    enum-known-number
+    enum-known-fault
     returns
     enum-known-next
     add-r

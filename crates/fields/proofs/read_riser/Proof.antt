@@ -10,8 +10,8 @@ use Rattle.fields.proofs.read_riser.Tie as tie
 count-at-requires : tie.Need-count-at-requires
 count-at-requires c κs = omega arith
 
-enum-known-number : tie.Need-enum-known-number
-enum-known-number c = search needs
+enum-known-fault : tie.Need-enum-known-fault
+enum-known-fault c = search needs
 
 enum-known-d : tie.Need-enum-known-d
 enum-known-d c = search needs
@@ -20,7 +20,7 @@ read-list-requires : tie.Need-read-list-requires
 read-list-requires c κs = search needs
 
 returns : tie.Need-returns
-returns c = riser-refused _ _ _ (sym (c .before .number .given .1) ∙ c .before .before .before .count-at .ensures)
+returns c = riser-refused _ _ _ (sym (c .before .fault .given .1) ∙ c .before .before .before .count-at .ensures)
 
 returns-2 : tie.Need-returns-2
 returns-2 c = riser-read _ _ _ (sym (c .before .before .before .d .given .1) ∙ c .before .before .before .before .before .count-at .ensures) (c .read-list .ensures)
@@ -30,7 +30,7 @@ read-riser-spec =
     tie.close
     (tie.spec
     count-at-requires
-    enum-known-number
+    enum-known-fault
     enum-known-d
     read-list-requires
     returns

@@ -33,7 +33,7 @@ count-few least most s at c p e = leb-true c most (and-right (leb least c) (leb 
 
 count-then : {B : Type 0} (least most : ℕ) (f : ℕ → Reading B) {b : ℕ} → ((c : ℕ) → c ≤ most → Looks (f c) b) → Looks (count least most >>= f) (1 + b)
 unfolding count
-count-then least most f F = then-looks (count least most) f (λ c. c ≤ most) (checked-looks 2 _ byte byte-looks) (count-few least most) F
+count-then least most f F = then-looks (count least most) f (λ c. c ≤ most) (checked-looks _ _ byte byte-looks) (count-few least most) F
 
 -- at most so many items
 items-look : {A : Type 0} (one : List A → Reading A) (b most c : ℕ) → c ≤ most → ((done : List A) → Looks (one done) b) → Looks (many one c []) (most * b)
@@ -47,7 +47,7 @@ items-then one f b most c h L F = then-looks (many one c []) f (λ l. Unit) (ite
 
 carrier-looks : (k : ℕ) (done : List ℕ) → Looks (carrier k done) 1
 unfolding carrier
-carrier-looks k done = checked-looks 3 _ byte byte-looks
+carrier-looks k done = checked-looks _ _ byte byte-looks
 
 riser-looks : (k : ℕ) → k ≤ most-carriers → (done : List (List ℕ)) → Looks (riser k done) (1 + most-carriers)
 unfolding riser
@@ -55,19 +55,19 @@ riser-looks k h done = count-then 1 k _ (λ d l. items-look (carrier k) 1 most-c
 
 pair-looks : (inLeft inRight : ℕ → Bool) (done : List Pair) → Looks (allowedPair inLeft inRight done) 2
 unfolding allowedPair
-pair-looks inLeft inRight done = checked-looks 5 _ two two-looks
+pair-looks inLeft inRight done = checked-looks _ _ two two-looks
 
 rule-looks : (n : ℕ) (listed : ℕ → ℕ → Bool) (done : List Rule) → Looks (rule n listed done) (3 + most-pairs * 2)
 unfolding ruleThat
 rule-looks n listed done =
-    then-looks (checked 4 _ two) _ (λ ab. Unit) (checked-looks 4 _ two two-looks) (λ s at x p e. tt)
+    then-looks (checked _ _ two) _ (λ ab. Unit) (checked-looks _ _ two two-looks) (λ s at x p e. tt)
     (λ ab u. count-then 0 most-pairs _
     (λ m l. made-looks (many (allowedPair (listed (ab .left)) (listed (ab .right))) m []) _
     (items-look (allowedPair (listed (ab .left)) (listed (ab .right))) 2 most-pairs m l (pair-looks (listed (ab .left)) (listed (ab .right))))))
 
 swap-looks : (k n m : ℕ) (listed : ℕ → ℕ → Bool) (allows : ℕ → ℕ → ℕ → Bool) → k ≤ most-carriers → (done : List (List ℕ)) → Looks (swap k n m listed allows done) most-carriers
 unfolding swap
-swap-looks k n m listed allows h done = looks-within most-carriers h (checked-looks 8 _ _ (checked-looks 7 _ _ (checked-looks 6 _ (field k) (field-looks k))))
+swap-looks k n m listed allows h done = looks-within most-carriers h (checked-looks _ _ _ (checked-looks _ _ _ (checked-looks _ _ (field k) (field-looks k))))
 
 -- ---- the sheet
 

@@ -14,7 +14,7 @@ use native.Mathlib.Omega.{arith}
 use borrow.Author.Tests.{ne-eqb}
 use lib.ListN.{length, take, drop}
 use lib.Seq.{take-all, take-take, length-take-le}
-use Rattle.ground.specs.Meanings.Sheet.{Outcome, got, refused, Reading, andThen, _>>=_, yields, field, checked, byte, two, many, nothingMore}
+use Rattle.ground.specs.Meanings.Sheet.{fault, Outcome, got, refused, Reading, andThen, _>>=_, yields, field, checked, byte, two, many, nothingMore}
 use Rattle.ground.specs.Laws.Reading.{field-in, andThen-got, checked-passed}
 use Rattle.ground.specs.Laws.Spelling.{got-at, field-length, more-spells}
 use Rattle.ground.specs.Laws.Valid.{Gives}
@@ -60,7 +60,7 @@ pub checked-looks : {A : Type 0} (q : ℕ) (test : A → Bool) (m : Reading A) {
 unfolding checked
 checked-looks q test m L = record {
   ends = λ s at x p f. L .ends s at x p (checked-passed q test m s at f .1);
-  cut = λ s at n h. ap (λ (o : Outcome _). andThen o (λ x next. cond (test x) (got x next) (refused q at))) (L .cut s at n h);
+  cut = λ s at n h. ap (λ (o : Outcome _). andThen o (λ x next. cond (test x) (got x next) (refused (fault q at)))) (L .cut s at n h);
 }
 
 module _ {A B : Type 0} (m : Reading A) (f : A → Reading B) (Good : A → Type 0) {b c : ℕ} (M : Looks m b) (G : Gives m Good) (F : (x : A) → Good x → Looks (f x) c) where
@@ -77,7 +77,7 @@ module _ {A B : Type 0} (m : Reading A) (f : A → Reading B) (Good : A → Type
         where
           go : (o : Outcome A) → m s at ≡ o → andThen o (λ x next. f x (take n s) next) ≡ andThen o (λ x next. f x s next)
           go (got x p) q = F x (G s at x p q) .cut s p n (omega (arith, M .ends s at x p q))
-          go (refused q p) r = refl
+          go (refused f) r = refl
 
 pub many-looks : {A : Type 0} (one : List A → Reading A) (b : ℕ) → ((done : List A) → Looks (one done) b) → (n : ℕ) (done : List A) → Looks (many one n done) (n * b)
 unfolding many

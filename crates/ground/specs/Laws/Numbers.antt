@@ -3,7 +3,7 @@
 --   Low m   what the reading m refuses, it refuses by a number from 1 to 9
 --
 -- Assumes nothing.
-use mathlib.Core.Path.{_≡_, refl}
+use mathlib.Core.Path.{_≡_, refl, subst}
 use mathlib.Core.Bool.{Bool, true, false, cond, _&&_}
 use mathlib.Core.List.{List, [], _∷_, _++_}
 use Prim.Native.Nat.{ℕ, zero, suc, _+_, _≤_, _<_}
@@ -11,32 +11,33 @@ use native.Mathlib.Omega.{arith}
 use lib.Dec.{leb, eqb}
 use lib.ListN.{length, take, drop}
 use Rattle.ground.specs.Meanings.Group.{at}
-use Rattle.ground.specs.Meanings.Sheet.{Outcome, got, refused, Reading, andThen, field, checked, byte, two, many, count, carrier, riser, Pair, Rule, allowedPair, ruleThat, rule, swap, nothingMore, Sheet, jobSheet, listedIn, allowedBy, keepsLists, keepsRules, allNew, most-carriers, most-risers, most-rules, most-pairs, most-swaps, Refused}
+use Rattle.ground.specs.declared.Fault.{Fault}
+use Rattle.ground.specs.Meanings.Sheet.{sheet-ends, wrong-count, wrong-carrier, wrong-rule, wrong-pair, no-permutation, list-not-kept, rule-not-kept, bytes-follow, fault, Outcome, got, refused, Reading, andThen, field, checked, byte, two, many, count, carrier, riser, Pair, Rule, allowedPair, ruleThat, rule, swap, nothingMore, Sheet, jobSheet, listedIn, allowedBy, keepsLists, keepsRules, allNew, most-carriers, most-risers, most-rules, most-pairs, most-swaps, Refused}
 
 abbrev LowOutcome : {A : Type 0} → Outcome A → Type 0
 LowOutcome (got x p) = Unit
-LowOutcome (refused q p) = (0 < q) × (q ≤ 9)
+LowOutcome (refused f) = (0 < f .number) × (f .number ≤ 9)
 
 abbrev Low : {A : Type 0} → Reading A → Type 0
 Low m = (s : List ℕ) (p : ℕ) → LowOutcome (m s p)
 
 low-then : {A B : Type 0} (o : Outcome A) (f : A → ℕ → Outcome B) → LowOutcome o → ((x : A) (n : ℕ) → LowOutcome (f x n)) → LowOutcome (andThen o f)
 low-then (got x n) f l h = h x n
-low-then (refused q p) f l h = l
+low-then (refused x) f l h = l
 
 low-field : (w : ℕ) → Low (field w)
 unfolding field
 low-field w s p = go (leb (p + w) (length s))
   where
-    go : (b : Bool) → LowOutcome (cond b (got (take w (drop p s)) (p + w)) (refused 1 p))
+    go : (b : Bool) → LowOutcome (cond b (got (take w (drop p s)) (p + w)) (refused (fault sheet-ends p)))
     go true = tt
     go false = (omega arith, omega arith)
 
 low-checked : {A : Type 0} (q : ℕ) → 0 < q → q ≤ 9 → (test : A → Bool) (m : Reading A) → Low m → Low (checked q test m)
 unfolding checked
-low-checked {A} q a b test m l s p = low-then (m s p) (λ x n. cond (test x) (got x n) (refused q p)) (l s p) (λ x n. go x n (test x))
+low-checked {A} q a b test m l s p = low-then (m s p) (λ x n. cond (test x) (got x n) (refused (fault q p))) (l s p) (λ x n. go x n (test x))
   where
-    go : (x : A) (n : ℕ) (t : Bool) → LowOutcome (cond t (got x n) (refused q p))
+    go : (x : A) (n : ℕ) (t : Bool) → LowOutcome (cond t (got x n) (refused (fault q p)))
     go x n true = tt
     go x n false = (a, b)
 
@@ -55,30 +56,30 @@ low-many one h (suc n) done s p = low-then (one done s p) _ (h done s p) (λ x n
 
 low-count : (a b : ℕ) → Low (count a b)
 unfolding count
-low-count a b = low-checked 2 (omega arith) (omega arith) _ byte low-byte
+low-count a b = low-checked wrong-count (omega arith) (omega arith) _ byte low-byte
 
 low-riser : (k : ℕ) (done : List (List ℕ)) → Low (riser k done)
 unfolding riser carrier
-low-riser k done s p = low-then (count 1 k s p) _ (low-count 1 k s p) (λ d n. low-many (carrier k) (λ l. low-checked 3 (omega arith) (omega arith) _ byte low-byte) d [] s n)
+low-riser k done s p = low-then (count 1 k s p) _ (low-count 1 k s p) (λ d n. low-many (carrier k) (λ l. low-checked wrong-carrier (omega arith) (omega arith) _ byte low-byte) d [] s n)
 
 low-rule : (n : ℕ) (listed : ℕ → ℕ → Bool) (done : List Rule) → Low (rule n listed done)
 unfolding ruleThat allowedPair
 low-rule n listed done s p =
-    low-then (checked 4 _ two s p) _ (low-checked 4 (omega arith) (omega arith) _ two low-two s p)
+    low-then (checked wrong-rule _ two s p) _ (low-checked wrong-rule (omega arith) (omega arith) _ two low-two s p)
     (λ ab a. low-then (count 0 most-pairs s a) _ (low-count 0 most-pairs s a)
     (λ m b. low-then (many (allowedPair (listed (ab .left)) (listed (ab .right))) m [] s b) _
-    (low-many (allowedPair (listed (ab .left)) (listed (ab .right))) (λ l. low-checked 5 (omega arith) (omega arith) _ two low-two) m [] s b) (λ ps e. tt)))
+    (low-many (allowedPair (listed (ab .left)) (listed (ab .right))) (λ l. low-checked wrong-pair (omega arith) (omega arith) _ two low-two) m [] s b) (λ ps e. tt)))
 
 low-swap : (k n m : ℕ) (listed : ℕ → ℕ → Bool) (allows : ℕ → ℕ → ℕ → Bool) (done : List (List ℕ)) → Low (swap k n m listed allows done)
 unfolding swap
 low-swap k n m listed allows done =
-    low-checked 8 (omega arith) (omega arith) (keepsRules k m allows) _ (low-checked 7 (omega arith) (omega arith) (keepsLists k n listed) _ (low-checked 6 (omega arith) (omega arith) (allNew k []) (field k) (low-field k)))
+    low-checked rule-not-kept (omega arith) (omega arith) (keepsRules k m allows) _ (low-checked list-not-kept (omega arith) (omega arith) (keepsLists k n listed) _ (low-checked no-permutation (omega arith) (omega arith) (allNew k []) (field k) (low-field k)))
 
 low-end : Low nothingMore
 unfolding nothingMore
 low-end s p = go (eqb p (length s))
   where
-    go : (b : Bool) → LowOutcome {A = Unit {0}} (cond b (got tt p) (refused 9 p))
+    go : (b : Bool) → LowOutcome {A = Unit {0}} (cond b (got tt p) (refused (fault bytes-follow p)))
     go true = tt
     go false = (omega arith, omega arith)
 
@@ -94,9 +95,9 @@ low-sheet s p =
     (λ j f. low-then (many (swap k n m (listedIn ls) (allowedBy rs)) j [] s f) _ (low-many (swap k n m (listedIn ls) (allowedBy rs)) (low-swap k n m (listedIn ls) (allowedBy rs)) j [] s f)
     (λ gs g. low-then (nothingMore s g) _ (low-end s g) (λ x h. tt))))))))
 
-pub refused-low : (s : List ℕ) (number place : ℕ) → Refused s number place → (0 < number) × (number ≤ 9)
-refused-low s number place r = go (jobSheet s 0) (r .read) (low-sheet s 0)
+pub refused-low : (s : List ℕ) (f : Fault) → Refused s f → (0 < f .number) × (f .number ≤ 9)
+refused-low s f r = go (jobSheet s 0) (r .read) (low-sheet s 0)
   where
-    go : (o : Outcome Sheet) → o ≡ refused number place → LowOutcome o → (0 < number) × (number ≤ 9)
+    go : (o : Outcome Sheet) → o ≡ refused f → LowOutcome o → (0 < f .number) × (f .number ≤ 9)
     go (got X p) e l = absurd (let z : _≡_ {A = ℕ} 0 1 = cc in omega arith)
-    go (refused q p) e l = let x : q ≡ number = cc in (omega (arith, l .0), omega (arith, l .1))
+    go (refused g) e l = let x : g ≡ f = cc in subst (λ (h : Fault). (0 < h .number) × (h .number ≤ 9)) x l

@@ -12,7 +12,8 @@ use native.Mathlib.Omega.{arith}
 use lib.ListN.{length, getD, take, drop}
 use lib.Seq.{getD-drop, getD-take}
 use borrow.Author.Tests.{le-leb, lt-leb}
-use Rattle.ground.specs.Meanings.Sheet.{Outcome, got, refused, Reading, andThen, field, checked, byte, two, many}
+use Rattle.ground.specs.declared.Fault.{Fault}
+use Rattle.ground.specs.Meanings.Sheet.{sheet-ends, fault, Outcome, got, refused, Reading, andThen, field, checked, byte, two, many}
 
 -- ---- tests joined
 
@@ -30,7 +31,7 @@ pub field-in : (w : ℕ) (s : List ℕ) (at : ℕ) → at + w ≤ length s → f
 unfolding field
 field-in w s at h = simp (le-leb _ _ h)
 
-pub field-out : (w : ℕ) (s : List ℕ) (at : ℕ) → length s < at + w → field w s at ≡ refused 1 at
+pub field-out : (w : ℕ) (s : List ℕ) (at : ℕ) → length s < at + w → field w s at ≡ refused (fault sheet-ends at)
 unfolding field
 field-out w s at h = simp (lt-leb _ _ h)
 
@@ -38,7 +39,7 @@ pub byte-in : (s : List ℕ) (at : ℕ) → at < length s → byte s at ≡ got 
 unfolding byte
 byte-in s at h = rw (field-in 1 s at (omega arith)) (ap (λ (c : ℕ). got c (at + 1)) (getD-take 1 (drop at s) 0 0 (omega arith) ∙ getD-drop at s 0 0 ∙ ap (λ (i : ℕ). getD s i 0) (omega arith)))
 
-pub byte-out : (s : List ℕ) (at : ℕ) → length s ≤ at → byte s at ≡ refused 1 at
+pub byte-out : (s : List ℕ) (at : ℕ) → length s ≤ at → byte s at ≡ refused (fault sheet-ends at)
 unfolding byte
 byte-out s at h = rw (field-out 1 s at (omega arith))
 
@@ -49,25 +50,25 @@ two-in s at h =
     let b : getD (take 2 (drop at s)) 1 0 ≡ getD s (at + 1) 0 = getD-take 2 (drop at s) 1 0 (omega arith) ∙ getD-drop at s 1 0 in
     rw (field-in 2 s at (omega arith)) (cc)
 
-pub two-out : (s : List ℕ) (at : ℕ) → length s ≤ at + 1 → two s at ≡ refused 1 at
+pub two-out : (s : List ℕ) (at : ℕ) → length s ≤ at + 1 → two s at ≡ refused (fault sheet-ends at)
 unfolding two
 two-out s at h = rw (field-out 2 s at (omega arith))
 
 -- what a joined reading got came by way of what its first part got
 pub andThen-got : {A B : Type 0} (o : Outcome A) (f : A → ℕ → Outcome B) {y : B} {p : ℕ} → andThen o f ≡ got y p → (x : A) × (n : ℕ) × (o ≡ got x n) × (f x n ≡ got y p)
 andThen-got (got x n) f e = (x, n, refl, e)
-andThen-got (refused a b) f e = absurd (let b : _≡_ {A = ℕ} 0 1 = cc in omega arith)
+andThen-got (refused a) f e = absurd (let b : _≡_ {A = ℕ} 0 1 = cc in omega arith)
 
 module _ {A : Type 0} (q : ℕ) (test : A → Bool) (m : Reading A) (s : List ℕ) (at : ℕ) where
   pub checked-got : {x : A} {next : ℕ} → m s at ≡ got x next → test x ≡ true → checked q test m s at ≡ got x next
   unfolding checked
   checked-got e t = rw (e, t)
 
-  pub checked-bad : {x : A} {next : ℕ} → m s at ≡ got x next → test x ≡ false → checked q test m s at ≡ refused q at
+  pub checked-bad : {x : A} {next : ℕ} → m s at ≡ got x next → test x ≡ false → checked q test m s at ≡ refused (fault q at)
   unfolding checked
   checked-bad e t = rw (e, t)
 
-  pub checked-refused : {p r : ℕ} → m s at ≡ refused r p → checked q test m s at ≡ refused r p
+  pub checked-refused : {f : Fault} → m s at ≡ refused f → checked q test m s at ≡ refused f
   unfolding checked
   checked-refused e = rw e
 
@@ -79,13 +80,13 @@ pub checked-passed : {A : Type 0} (q : ℕ) (test : A → Bool) (m : Reading A) 
 unfolding checked
 checked-passed {A} q test m s at {x} {next} e = go (m s at) refl e
   where
-    bit : (y : A) (p : ℕ) (b : Bool) → test y ≡ b → m s at ≡ got y p → cond b (got y p) (refused q at) ≡ got x next → (test x ≡ true) × (m s at ≡ got x next)
+    bit : (y : A) (p : ℕ) (b : Bool) → test y ≡ b → m s at ≡ got y p → cond b (got y p) (refused (fault q at)) ≡ got x next → (test x ≡ true) × (m s at ≡ got x next)
     bit y p true t g f = let z : y ≡ x = cc in (rw (← z) t, g ∙ f)
     bit y p false t g f = absurd (let b : _≡_ {A = ℕ} 0 1 = cc in omega arith)
 
-    go : (o : Outcome A) → m s at ≡ o → andThen o (λ y p. cond (test y) (got y p) (refused q at)) ≡ got x next → (test x ≡ true) × (m s at ≡ got x next)
+    go : (o : Outcome A) → m s at ≡ o → andThen o (λ y p. cond (test y) (got y p) (refused (fault q at))) ≡ got x next → (test x ≡ true) × (m s at ≡ got x next)
     go (got y p) g f = bit y p (test y) refl g f
-    go (refused a b) g f = absurd (let b : _≡_ {A = ℕ} 0 1 = cc in omega arith)
+    go (refused a) g f = absurd (let b : _≡_ {A = ℕ} 0 1 = cc in omega arith)
 
 -- ---- runs of items
 
@@ -120,8 +121,8 @@ module _ {A : Type 0} (one : List A → Reading A) (n : ℕ) (s : List ℕ) (fro
       so-far = length-snoc done x ∙ ap (λ (j : ℕ). j + 1) (w .so-far);
     }
 
-    pub walk-refused : {q p : ℕ} → i < n → one done s at ≡ refused q p → many one n [] s from ≡ refused q p
-    walk-refused {q} {p} l e = sym (w .same) ∙ rw e at (many-suc done at (n - i) (n - (i + 1)) (omega arith))
+    pub walk-refused : {f : Fault} → i < n → one done s at ≡ refused f → many one n [] s from ≡ refused f
+    walk-refused l e = sym (w .same) ∙ rw e at (many-suc done at (n - i) (n - (i + 1)) (omega arith))
 
     pub walk-ends : n ≤ i → many one n [] s from ≡ got done at
     walk-ends l = sym (w .same) ∙ many-zero done at (n - i) (omega arith)

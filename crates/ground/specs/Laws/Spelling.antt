@@ -14,7 +14,7 @@ use lib.Dec.{leb, eqb}
 use lib.ListN.{length, getD, take, drop, take-append-drop}
 use lib.Seq.{drop-drop, drop-cons, drop-length}
 use borrow.Author.Tests.{leb-true, eqb-true}
-use Rattle.ground.specs.Meanings.Sheet.{got, refused, Reading, andThen, field, checked, byte, two, Pair, many, count, carrier, riser, Rule, allowedPair, ruleThat, rule, swap, nothingMore, Sheet, jobSheet, listedIn, allowedBy, most-carriers, most-risers, most-rules, most-pairs, most-swaps}
+use Rattle.ground.specs.Meanings.Sheet.{sheet-ends, bytes-follow, fault, got, refused, Reading, andThen, field, checked, byte, two, Pair, many, count, carrier, riser, Rule, allowedPair, ruleThat, rule, swap, nothingMore, Sheet, jobSheet, listedIn, allowedBy, most-carriers, most-risers, most-rules, most-pairs, most-swaps}
 use Rattle.ground.specs.Laws.Reading.{andThen-got, byte-in, two-in, checked-passed, many-length}
 use Rattle.ground.specs.Laws.Sections.{whole, last, from-swaps, from-rules, from-risers}
 
@@ -55,7 +55,7 @@ field-spells : (w : ℕ) → Spells (field w) (λ (l : List ℕ). l)
 unfolding field
 field-spells w s at x p e = go (leb (at + w) (length s)) e
   where
-    go : (b : Bool) → cond b (got (take w (drop at s)) (at + w)) (refused 1 at) ≡ got x p → drop at s ≡ x ++ drop p s
+    go : (b : Bool) → cond b (got (take w (drop at s)) (at + w)) (refused (fault sheet-ends at)) ≡ got x p → drop at s ≡ x ++ drop p s
     go true f = let y : take w (drop at s) ≡ x = cc in let q : at + w ≡ p = cc in rw (← y, ← q) (sym (take-append-drop w (drop at s)) ∙ ap (λ (t : List ℕ). take w (drop at s) ++ t) (drop-drop w at s))
     go false f = absurd (let b : _≡_ {A = ℕ} 0 1 = cc in omega arith)
 
@@ -66,7 +66,7 @@ pub field-length : (w : ℕ) (s : List ℕ) (at : ℕ) (x : List ℕ) (p : ℕ) 
 unfolding field
 field-length w s at x p e = go (leb (at + w) (length s)) refl e
   where
-    go : (b : Bool) → leb (at + w) (length s) ≡ b → cond b (got (take w (drop at s)) (at + w)) (refused 1 at) ≡ got x p → at + w ≤ length s
+    go : (b : Bool) → leb (at + w) (length s) ≡ b → cond b (got (take w (drop at s)) (at + w)) (refused (fault sheet-ends at)) ≡ got x p → at + w ≤ length s
     go true h f = leb-true (at + w) (length s) h
     go false h f = absurd (let b : _≡_ {A = ℕ} 0 1 = cc in omega arith)
 
@@ -108,11 +108,11 @@ many-all-spells one w h n s at l p e = let r = many-spells one w h n [] s at l p
 
 count-spells : (a b : ℕ) → Spells (count a b) (λ (c : ℕ). c ∷ [])
 unfolding count
-count-spells a b = checked-spells 2 _ byte (λ (c : ℕ). c ∷ []) byte-spells
+count-spells a b = checked-spells _ _ byte (λ (c : ℕ). c ∷ []) byte-spells
 
 carrier-spells : (k : ℕ) (done : List ℕ) → Spells (carrier k done) (λ (c : ℕ). c ∷ [])
 unfolding carrier
-carrier-spells k done = checked-spells 3 _ byte (λ (c : ℕ). c ∷ []) byte-spells
+carrier-spells k done = checked-spells _ _ byte (λ (c : ℕ). c ∷ []) byte-spells
 
 pub singles : (l : List ℕ) → each-written (λ (c : ℕ). c ∷ []) l ≡ l
 singles [] = refl
@@ -128,26 +128,26 @@ riser-spells k done s at x p e =
 rule-spells : (n : ℕ) (listed : ℕ → ℕ → Bool) (done : List Rule) → Spells (rule n listed done) writeRule
 unfolding ruleThat allowedPair
 rule-spells n listed done s at x p e =
-    let z = andThen-got (checked 4 _ two s at) _ e in
+    let z = andThen-got (checked _ _ two s at) _ e in
     let y = andThen-got (count 0 most-pairs s (z .1)) _ (z .3) in
     let w = andThen-got (many (allowedPair (listed (z .0 .left)) (listed (z .0 .right))) (y .0) [] s (y .1)) _ (y .3) in
     let i : _≡_ {A = Rule} (record { risers = z .0; pairs = w .0 }) x = cc (w .3) in
     let q : w .1 ≡ p = cc (w .3) in
     let l : length (w .0) ≡ y .0 = many-length (allowedPair (listed (z .0 .left)) (listed (z .0 .right))) s (y .0) [] (y .1) (w .0) (w .1) (w .2) ∙ omega arith in
-    let a = checked-spells 4 _ two writePair two-spells s at (z .0) (z .1) (z .2) in
+    let a = checked-spells _ _ two writePair two-spells s at (z .0) (z .1) (z .2) in
     let b = count-spells 0 most-pairs s (z .1) (y .0) (y .1) (y .2) in
-    let c = many-all-spells (allowedPair (listed (z .0 .left)) (listed (z .0 .right))) writePair (λ d. checked-spells 5 _ two writePair two-spells) (y .0) s (y .1) (w .0) (w .1) (w .2) in
+    let c = many-all-spells (allowedPair (listed (z .0 .left)) (listed (z .0 .right))) writePair (λ d. checked-spells _ _ two writePair two-spells) (y .0) s (y .1) (w .0) (w .1) (w .2) in
     subst (λ (r : Rule). drop at s ≡ writeRule r ++ drop p s) i (a ∙ ap (λ (t : List ℕ). z .0 .left ∷ z .0 .right ∷ t) (b ∙ ap₂ (λ (h : ℕ) (t : List ℕ). h ∷ t) (sym l) (c ∙ ap (λ (j : ℕ). each-written writePair (w .0) ++ drop j s) q)))
 
 swap-spells : (k n m : ℕ) (listed : ℕ → ℕ → Bool) (allows : ℕ → ℕ → ℕ → Bool) (done : List (List ℕ)) → Spells (swap k n m listed allows done) (λ (g : List ℕ). g)
 unfolding swap
-swap-spells k n m listed allows done = checked-spells 8 _ _ (λ (g : List ℕ). g) (checked-spells 7 _ _ (λ (g : List ℕ). g) (checked-spells 6 _ (field k) (λ (g : List ℕ). g) (field-spells k)))
+swap-spells k n m listed allows done = checked-spells _ _ _ (λ (g : List ℕ). g) (checked-spells _ _ _ (λ (g : List ℕ). g) (checked-spells _ _ (field k) (λ (g : List ℕ). g) (field-spells k)))
 
 pub more-spells : (s : List ℕ) (at : ℕ) (x : Unit) (p : ℕ) → nothingMore s at ≡ got x p → (at ≡ length s) × (p ≡ at)
 unfolding nothingMore
 more-spells s at x p e = go (eqb at (length s)) refl e
   where
-    go : (b : Bool) → eqb at (length s) ≡ b → cond b (got tt at) (refused 9 at) ≡ got x p → (at ≡ length s) × (p ≡ at)
+    go : (b : Bool) → eqb at (length s) ≡ b → cond b (got tt at) (refused (fault bytes-follow at)) ≡ got x p → (at ≡ length s) × (p ≡ at)
     go true h f = (eqb-true at (length s) h, (let q : at ≡ p = cc in sym q))
     go false h f = absurd (let b : _≡_ {A = ℕ} 0 1 = cc in omega arith)
 

@@ -15,7 +15,7 @@ use lib.Dec.{ltb, leb}
 use lib.ListN.{length, take, drop, length-append, length-drop}
 use lib.Seq.{drop-drop, drop-append-seam, take-at, length-take-le}
 use borrow.Author.Tests.{eq-eqb, leb-true}
-use Rattle.ground.specs.Meanings.Sheet.{got, refused, Reading, andThen, field, checked, byte, two, Pair, many, count, carrier, riser, Rule, allowedPair, ruleThat, rule, swap, nothingMore, Sheet, jobSheet, listedIn, allowedBy, after, before, allNew, keepsLists, keepsRules, most-carriers, most-risers, most-rules, most-pairs, most-swaps}
+use Rattle.ground.specs.Meanings.Sheet.{sheet-ends, wrong-rule, fault, got, refused, Reading, andThen, field, checked, byte, two, Pair, many, count, carrier, riser, Rule, allowedPair, ruleThat, rule, swap, nothingMore, Sheet, jobSheet, listedIn, allowedBy, after, before, allNew, keepsLists, keepsRules, most-carriers, most-risers, most-rules, most-pairs, most-swaps}
 use Rattle.ground.specs.Laws.Reading.{and-left, andThen-got, field-in, checked-got, checked-passed}
 use Rattle.ground.specs.Laws.Spelling.{each-written, writeList, writePair, writeRule, written, tail-swaps, tail-rules, tail-risers, got-same, many-count, singles, one-spelling}
 use Rattle.ground.specs.Laws.Sections.{whole, last, from-swaps, from-rules, from-risers}
@@ -76,11 +76,11 @@ ValidList k done l = Counted 1 k (length l) × Run (ValidCarrier k) [] l
 
 count-takes : (a b : ℕ) → Takes (count a b) (λ (c : ℕ). c ∷ []) (Counted a b)
 unfolding count
-count-takes a b = checked-takes 2 _ byte (λ (c : ℕ). c ∷ []) (λ (c : ℕ). Unit) byte-takes
+count-takes a b = checked-takes _ _ byte (λ (c : ℕ). c ∷ []) (λ (c : ℕ). Unit) byte-takes
 
 carrier-takes : (k : ℕ) (done : List ℕ) → Takes (carrier k done) (λ (c : ℕ). c ∷ []) (ValidCarrier k done)
 unfolding carrier
-carrier-takes k done = checked-takes 3 _ byte (λ (c : ℕ). c ∷ []) (λ (c : ℕ). Unit) byte-takes
+carrier-takes k done = checked-takes _ _ byte (λ (c : ℕ). c ∷ []) (λ (c : ℕ). Unit) byte-takes
 
 riser-takes : (k : ℕ) (done : List (List ℕ)) → Takes (riser k done) writeList (ValidList k done)
 unfolding riser
@@ -100,12 +100,12 @@ pub record ValidRule (n : ℕ) (listed : ℕ → ℕ → Bool) (done : List Rule
 
 pair-takes : (inA inB : ℕ → Bool) (done : List Pair) → Takes (allowedPair inA inB done) writePair (ValidPair inA inB done)
 unfolding allowedPair
-pair-takes inA inB done = checked-takes 5 _ two writePair (λ (x : Pair). Unit) two-takes
+pair-takes inA inB done = checked-takes _ _ two writePair (λ (x : Pair). Unit) two-takes
 
 rule-takes : (n : ℕ) (listed : ℕ → ℕ → Bool) (done : List Rule) → Takes (rule n listed done) writeRule (ValidRule n listed done)
 unfolding ruleThat
 rule-takes n listed done s at x rest v e =
-    let f = checked-takes 4 (λ (y : Pair). (ltb (y .left) (y .right) && ltb (y .right) n) && after before (map (λ (z : Rule). z .risers) done) y) two writePair (λ (y : Pair). Unit) two-takes s at (x .risers) (length (x .pairs) ∷ (each-written writePair (x .pairs) ++ rest)) (v .risers) e in
+    let f = checked-takes wrong-rule (λ (y : Pair). (ltb (y .left) (y .right) && ltb (y .right) n) && after before (map (λ (z : Rule). z .risers) done) y) two writePair (λ (y : Pair). Unit) two-takes s at (x .risers) (length (x .pairs) ∷ (each-written writePair (x .pairs) ++ rest)) (v .risers) e in
     let e₂ = go-on s at (writePair (x .risers)) (length (x .pairs) ∷ (each-written writePair (x .pairs) ++ rest)) e in
     let g = count-takes 0 most-pairs s (at + 2) (length (x .pairs)) (each-written writePair (x .pairs) ++ rest) (v .counted) e₂ in
     let e₃ = go-on s (at + 2) (length (x .pairs) ∷ []) (each-written writePair (x .pairs) ++ rest) e₂ in
@@ -117,7 +117,7 @@ ValidSwap k n m listed allows done g = (((length g ≡ k) × (allNew k [] g ≡ 
 
 swap-takes : (k n m : ℕ) (listed : ℕ → ℕ → Bool) (allows : ℕ → ℕ → ℕ → Bool) → 0 < k → (done : List (List ℕ)) → Takes (swap k n m listed allows done) (λ (g : List ℕ). g) (ValidSwap k n m listed allows done)
 unfolding swap
-swap-takes k n m listed allows h done = checked-takes 8 _ _ (λ (g : List ℕ). g) _ (checked-takes 7 _ _ (λ (g : List ℕ). g) _ (checked-takes 6 _ (field k) (λ (g : List ℕ). g) _ (field-takes k h)))
+swap-takes k n m listed allows h done = checked-takes _ _ _ (λ (g : List ℕ). g) _ (checked-takes _ _ _ (λ (g : List ℕ). g) _ (checked-takes _ _ (field k) (λ (g : List ℕ). g) _ (field-takes k h)))
 
 -- a valid sheet, section by section
 pub record Valid (x : Sheet) : Type 0 where
@@ -194,11 +194,11 @@ checked-gives q t m Good h s at x p e = let z = checked-passed q t m s at e in (
 
 pub count-gives : (a b : ℕ) → Gives (count a b) (Counted a b)
 unfolding count
-count-gives a b = checked-gives 2 (λ c. leb a c && leb c b) byte (λ (c : ℕ). Unit) (λ s at x p e. tt)
+count-gives a b = checked-gives _ (λ c. leb a c && leb c b) byte (λ (c : ℕ). Unit) (λ s at x p e. tt)
 
 carrier-gives : (k : ℕ) (done : List ℕ) → Gives (carrier k done) (ValidCarrier k done)
 unfolding carrier
-carrier-gives k done = checked-gives 3 (λ c. after ltb done c && ltb c k) byte (λ (c : ℕ). Unit) (λ s at x p e. tt)
+carrier-gives k done = checked-gives _ (λ c. after ltb done c && ltb c k) byte (λ (c : ℕ). Unit) (λ s at x p e. tt)
 
 riser-gives : (k : ℕ) (done : List (List ℕ)) → Gives (riser k done) (ValidList k done)
 unfolding riser
@@ -208,17 +208,17 @@ riser-gives k done s at x p e =
 
 pair-gives : (inA inB : ℕ → Bool) (done : List Pair) → Gives (allowedPair inA inB done) (ValidPair inA inB done)
 unfolding allowedPair
-pair-gives inA inB done = checked-gives 5 (λ x. (inA (x .left) && inB (x .right)) && after before done x) two (λ (x : Pair). Unit) (λ s at x p e. tt)
+pair-gives inA inB done = checked-gives _ (λ x. (inA (x .left) && inB (x .right)) && after before done x) two (λ (x : Pair). Unit) (λ s at x p e. tt)
 
 rule-gives : (n : ℕ) (listed : ℕ → ℕ → Bool) (done : List Rule) → Gives (rule n listed done) (ValidRule n listed done)
 unfolding ruleThat
 rule-gives n listed done s at x p e =
-    let z = andThen-got (checked 4 (λ (y : Pair). (ltb (y .left) (y .right) && ltb (y .right) n) && after before (map (λ (w : Rule). w .risers) done) y) two s at) _ e in
+    let z = andThen-got (checked _ (λ (y : Pair). (ltb (y .left) (y .right) && ltb (y .right) n) && after before (map (λ (w : Rule). w .risers) done) y) two s at) _ e in
     let y = andThen-got (count 0 most-pairs s (z .1)) _ (z .3) in
     let w = andThen-got (many (allowedPair (listed (z .0 .left)) (listed (z .0 .right))) (y .0) [] s (y .1)) _ (y .3) in
     let l = many-count (allowedPair (listed (z .0 .left)) (listed (z .0 .right))) s (y .0) (y .1) (w .0) (w .1) (w .2) in
     subst (ValidRule n listed done) (got-same (w .3)) (record {
-      risers = (tt, checked-passed 4 _ two s at (z .2) .0);
+      risers = (tt, checked-passed _ _ two s at (z .2) .0);
       counted = subst (Counted 0 most-pairs) l (count-gives 0 most-pairs s (z .1) (y .0) (y .1) (y .2));
       pairs = many-run (allowedPair (listed (z .0 .left)) (listed (z .0 .right))) (ValidPair (listed (z .0 .left)) (listed (z .0 .right))) (pair-gives (listed (z .0 .left)) (listed (z .0 .right))) (y .0) s (y .1) (w .0) (w .1) (w .2);
     })
@@ -227,13 +227,13 @@ field-gives : (w : ℕ) → Gives (field w) (λ (l : List ℕ). length l ≡ w)
 unfolding field
 field-gives w s at x p e = go (leb (at + w) (length s)) refl e
   where
-    go : (b : Bool) → leb (at + w) (length s) ≡ b → cond b (got (take w (drop at s)) (at + w)) (refused 1 at) ≡ got x p → length x ≡ w
+    go : (b : Bool) → leb (at + w) (length s) ≡ b → cond b (got (take w (drop at s)) (at + w)) (refused (fault sheet-ends at)) ≡ got x p → length x ≡ w
     go true h f = ap (λ (l : List ℕ). length l) (sym (got-same f)) ∙ length-take-le w (drop at s) (let d = length-drop at s in let r = leb-true (at + w) (length s) h in omega arith)
     go false h f = absurd (let b : _≡_ {A = ℕ} 0 1 = cc in omega arith)
 
 swap-gives : (k n m : ℕ) (listed : ℕ → ℕ → Bool) (allows : ℕ → ℕ → ℕ → Bool) (done : List (List ℕ)) → Gives (swap k n m listed allows done) (ValidSwap k n m listed allows done)
 unfolding swap
-swap-gives k n m listed allows done = checked-gives 8 (keepsRules k m allows) _ _ (checked-gives 7 (keepsLists k n listed) _ _ (checked-gives 6 (allNew k []) (field k) _ (field-gives k)))
+swap-gives k n m listed allows done = checked-gives _ (keepsRules k m allows) _ _ (checked-gives _ (keepsLists k n listed) _ _ (checked-gives _ (allNew k []) (field k) _ (field-gives k)))
 
 -- From each section to the end: what the sheet has
 

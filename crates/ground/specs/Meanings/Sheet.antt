@@ -1,17 +1,19 @@
--- The job sheet: what reading its bytes gives, the sheet or the refusal with its number and place
+-- The job sheet: what reading its bytes gives, the sheet or the fault that refuses it
 -- (docs/SHEET.md, "The bytes" and "Refusals", 1 to 9).
 --
 -- A reading goes from the bytes of a sheet and a place to an outcome: what was read and the place after it, or a refusal.
 -- `do` joins readings: each starts where the one before it ended, and the first refusal is the outcome. So faults are
 -- taken in reading order, and the place of a refusal is the first byte of the field that it is about.
 --
---   field w            w bytes that are one field; 1 where the sheet ends before it is whole
+--   Fault              what a refusal tells: its number and its place (declared in src/lib.rt)
+--   fault q p          the refusal number q at place p; `noFault` is what an accepted answer has in its stead
+--   field w            w bytes that are one field; `sheet-ends` where the sheet ends before it is whole
 --   checked q test m   what m reads; q, at m's first byte, where the test fails
 --   many one n         n items, each read by `one` from the items before it
 --   firstOut n test    the first of 0 to n − 1 at which the test fails, or n
 --   jobSheet           the whole sheet
 --   Accepted s X       the bytes s are the sheet X
---   Refused s q p      the bytes s are refused by number q at place p
+--   Refused s f        the bytes s are refused with the fault f
 --
 -- These are definitions: nothing is assumed or proved here.
 use mathlib.Core.Path.{_≡_}
@@ -21,6 +23,7 @@ use Prim.Native.Nat.{ℕ, zero, suc, _+_}
 use lib.Dec.{ltb, leb, eqb}
 use lib.ListN.{length, getD, take, drop}
 use Rattle.ground.specs.Meanings.Group.{at}
+use Rattle.ground.specs.declared.Fault.{Fault}
 
 -- ---- limits
 
@@ -39,11 +42,61 @@ most-pairs = 225
 abbrev pub most-swaps : ℕ
 most-swaps = 8
 
+-- ---- the numbers of refusal, and faults
+
+abbrev pub accepted : ℕ
+accepted = 0
+
+abbrev pub sheet-ends : ℕ
+sheet-ends = 1
+
+abbrev pub wrong-count : ℕ
+wrong-count = 2
+
+abbrev pub wrong-carrier : ℕ
+wrong-carrier = 3
+
+abbrev pub wrong-rule : ℕ
+wrong-rule = 4
+
+abbrev pub wrong-pair : ℕ
+wrong-pair = 5
+
+abbrev pub no-permutation : ℕ
+no-permutation = 6
+
+abbrev pub list-not-kept : ℕ
+list-not-kept = 7
+
+abbrev pub rule-not-kept : ℕ
+rule-not-kept = 8
+
+abbrev pub bytes-follow : ℕ
+bytes-follow = 9
+
+abbrev pub opened-beyond : ℕ
+opened-beyond = 10
+
+abbrev pub listed-beyond : ℕ
+listed-beyond = 11
+
+abbrev pub row-not-whole : ℕ
+row-not-whole = 12
+
+abbrev pub buffers-not-fitting : ℕ
+buffers-not-fitting = 13
+
+abbrev pub fault : ℕ → ℕ → Fault
+fault q p = record { number = q; place = p }
+
+abbrev pub noFault : Fault
+noFault = fault accepted 0
+
 -- ---- outcomes and readings
 
 pub data Outcome (A : Type 0) : Type 0 where
   got : A → ℕ → Outcome A
-  refused : ℕ → ℕ → Outcome A
+  refused : Fault → Outcome A
 
 abbrev pub Reading : Type 0 → Type 0
 Reading A = List ℕ → ℕ → Outcome A
@@ -51,7 +104,7 @@ Reading A = List ℕ → ℕ → Outcome A
 -- the rest of a reading, from what was got and the place after it
 abbrev pub andThen : {A B : Type 0} → Outcome A → (A → ℕ → Outcome B) → Outcome B
 andThen (got x next) f = f x next
-andThen (refused q p) f = refused q p
+andThen (refused x) f = refused x
 
 infixl 20 _>>=_
 abbrev pub _>>=_ : {A B : Type 0} → Reading A → (A → Reading B) → Reading B
@@ -63,10 +116,10 @@ yields x s p = got x p
 -- ---- fields
 
 unfoldable pub field : ℕ → Reading (List ℕ)
-field w s p = cond (leb (p + w) (length s)) (got (take w (drop p s)) (p + w)) (refused 1 p)
+field w s p = cond (leb (p + w) (length s)) (got (take w (drop p s)) (p + w)) (refused (fault sheet-ends p))
 
 unfoldable pub checked : {A : Type 0} → ℕ → (A → Bool) → Reading A → Reading A
-checked q test m s p = andThen (m s p) (λ x next. cond (test x) (got x next) (refused q p))
+checked q test m s p = andThen (m s p) (λ x next. cond (test x) (got x next) (refused (fault q p)))
 
 unfoldable pub byte : Reading ℕ
 byte s p = andThen (field 1 s p) (λ w next. got (at w 0) next)
@@ -120,12 +173,12 @@ implies a b = not a || b
 -- ---- 2: counts
 
 unfoldable pub count : ℕ → ℕ → Reading ℕ
-count least most = checked 2 (λ c. leb least c && leb c most) byte
+count least most = checked wrong-count (λ c. leb least c && leb c most) byte
 
 -- ---- 3: risers
 
 unfoldable pub carrier : ℕ → List ℕ → Reading ℕ
-carrier k done = checked 3 (λ c. after ltb done c && ltb c k) byte
+carrier k done = checked wrong-carrier (λ c. after ltb done c && ltb c k) byte
 
 unfoldable pub riser : ℕ → List (List ℕ) → Reading (List ℕ)
 riser k done = do
@@ -140,12 +193,12 @@ pub record Rule : Type 0 where
   pub pairs : List Pair
 
 unfoldable pub allowedPair : (ℕ → Bool) → (ℕ → Bool) → List Pair → Reading Pair
-allowedPair inLeft inRight done = checked 5 (λ x. (inLeft (x .left) && inRight (x .right)) && after before done x) two
+allowedPair inLeft inRight done = checked wrong-pair (λ x. (inLeft (x .left) && inRight (x .right)) && after before done x) two
 
 -- a rule whose two risers pass the test `follows`
 unfoldable pub ruleThat : ℕ → (ℕ → ℕ → Bool) → (Pair → Bool) → Reading Rule
 ruleThat n listed follows = do
-  ab ← checked 4 (λ x. (ltb (x .left) (x .right) && ltb (x .right) n) && follows x) two
+  ab ← checked wrong-rule (λ x. (ltb (x .left) (x .right) && ltb (x .right) n) && follows x) two
   m ← count 0 most-pairs
   ps ← many (allowedPair (listed (ab .left)) (listed (ab .right))) m []
   yields (record { risers = ab; pairs = ps })
@@ -181,12 +234,12 @@ abbrev pub keepsRules : ℕ → ℕ → (ℕ → ℕ → ℕ → Bool) → List 
 keepsRules k m allows g = each m (λ q. keepsRule k (allows q) g)
 
 unfoldable pub swap : ℕ → ℕ → ℕ → (ℕ → ℕ → Bool) → (ℕ → ℕ → ℕ → Bool) → List (List ℕ) → Reading (List ℕ)
-swap k n m listed allows done = checked 8 (keepsRules k m allows) (checked 7 (keepsLists k n listed) (checked 6 (allNew k []) (field k)))
+swap k n m listed allows done = checked rule-not-kept (keepsRules k m allows) (checked list-not-kept (keepsLists k n listed) (checked no-permutation (allNew k []) (field k)))
 
 -- ---- 9, and the whole
 
 unfoldable pub nothingMore : Reading Unit
-nothingMore s p = cond (eqb p (length s)) (got tt p) (refused 9 p)
+nothingMore s p = cond (eqb p (length s)) (got tt p) (refused (fault bytes-follow p))
 
 -- the carriers are 0 to `carriers` − 1; the lists are those of the risers, in order
 pub record Sheet : Type 0 where
@@ -224,5 +277,5 @@ pub record Accepted (s : List ℕ) (X : Sheet) : Type 0 where
   pub end : ℕ
   pub read : jobSheet s 0 ≡ got X end
 
-pub record Refused (s : List ℕ) (number place : ℕ) : Type 0 where
-  pub read : jobSheet s 0 ≡ refused number place
+pub record Refused (s : List ℕ) (f : Fault) : Type 0 where
+  pub read : jobSheet s 0 ≡ refused f

@@ -7,13 +7,14 @@
 -- With number 0 the row that is written is the first image of the row handed in (`accepted-folding`). The member is open only
 -- where several carry the row to its first image: where one does, two results that both fit are equal as a whole (`folds-one`).
 -- Assumes nothing.
-use mathlib.Core.Path.{_≡_, refl, sym, subst, _∙_}
+use mathlib.Core.Path.{_≡_, refl, sym, ap, subst, _∙_}
 use mathlib.Core.List.{List}
 use Prim.Native.Nat.{ℕ}
 use native.Mathlib.Decide.{ℕ-discrete}
 use native.Mathlib.Omega.{arith}
 use Rattle.ground.specs.Meanings.Group.{Member, move, First, _≼_}
-use Rattle.ground.specs.Meanings.Sheet.{Sheet, Accepted}
+use Rattle.ground.specs.declared.Fault.{Fault}
+use Rattle.ground.specs.Meanings.Sheet.{accepted, Sheet, Accepted}
 use Rattle.ground.specs.Meanings.Plans.{Swap, ImageOn, ClassSize}
 use Rattle.ground.specs.Meanings.Folding.{Whole, Fitting, Folded, folded, not-whole, not-fitting, carried, Folds}
 use Rattle.ground.specs.Laws.Rows.{image-by}
@@ -44,8 +45,8 @@ first-image s row g X a w m f =
     record { image = i; before = λ t j. f t (K .trans (move g row) row t v (K .back row (move g row) w i) j) }
 
 -- demand 2
-pub accepted-folding : (s row first member : List ℕ) {o : Folded} → Folds s row first member o → o .number ≡ 0 → WholeFolding s row first member o
-accepted-folding s row first member (Folds.faulty {number = q} {place = p} r) e = absurd (let l = refused-low s q p r in omega (arith, l .0))
+pub accepted-folding : (s row first member : List ℕ) {o : Folded} → Folds s row first member o → o .fault .number ≡ accepted → WholeFolding s row first member o
+accepted-folding s row first member (Folds.faulty {f = f} r) e = absurd (let l = refused-low s f r in omega (arith, l .0))
 accepted-folding s row first member (Folds.sheet {X = X} a (not-whole f)) e = absurd (omega arith)
 accepted-folding s row first member (Folds.sheet {X = X} a (not-fitting w f)) e = absurd (omega arith)
 accepted-folding s row first member (Folds.sheet {X = X} a (carried {g = g} w t m f z)) e =
@@ -64,14 +65,14 @@ module _ (s row first member : List ℕ) (one : (X : Sheet) → Accepted s X →
 
   -- where one member carries the row to its first image, two results of folding that both fit are equal
   pub folds-one : {o p : Folded} → Folds s row first member o → Folds s row first member p → o ≡ p
-  folds-one {o} {p} f g = same (settled (ℕ-discrete (o .number) 0))
+  folds-one {o} {p} f g = same (settled (ℕ-discrete (o .fault .number) accepted))
     where
       A : Agree o p
       A = folds-agree s row first member f g
 
-      settled : Dec (o .number ≡ 0) → o .member ≡ p .member
-      settled (yes e) = same-member (accepted-folding s row first member f e) (accepted-folding s row first member g (sym (A .number) ∙ e)) (A .first)
+      settled : Dec (o .fault .number ≡ accepted) → o .member ≡ p .member
+      settled (yes e) = same-member (accepted-folding s row first member f e) (accepted-folding s row first member g (ap (λ (h : Fault). h .number) (sym (A .fault)) ∙ e)) (A .first)
       settled (no d) = A .member d
 
       same : o .member ≡ p .member → o ≡ p
-      same e = λ i. folded (A .number i) (A .place i) (A .size i) (A .first i) (e i)
+      same e = λ i. folded (A .fault i) (A .size i) (A .first i) (e i)

@@ -13,6 +13,7 @@ use native.Mathlib.Omega.{arith}
 use lib.ListN.{length, take, length-append}
 use Rattle.ground.specs.Meanings.Exactly.{_∈_}
 use Rattle.ground.specs.Meanings.Group.{identity}
+use Rattle.ground.specs.declared.Fault.{Fault}
 use Rattle.ground.specs.Meanings.Sheet.{Sheet, Rule, Accepted, Refused, most-carriers, most-risers, most-rules, most-pairs, most-swaps}
 use Rattle.ground.specs.Meanings.Listing.{Left, Lists}
 use Rattle.ground.specs.Laws.Permutations.{perm-identity}
@@ -89,16 +90,16 @@ module _ (s : List ℕ) where
   pub first-accepted : (X : Sheet) → Accepted first X ↔ Accepted s X
   first-accepted X = (λ a. record { end = a .end; read = sym (first-bytes s) ∙ a .read }, λ a. record { end = a .end; read = first-bytes s ∙ a .read })
 
-  pub first-refused : (number place : ℕ) → Refused first number place ↔ Refused s number place
-  first-refused number place = (λ r. record { read = sym (first-bytes s) ∙ r .read }, λ r. record { read = first-bytes s ∙ r .read })
+  pub first-refused : (f : Fault) → Refused first f ↔ Refused s f
+  first-refused f = (λ r. record { read = sym (first-bytes s) ∙ r .read }, λ r. record { read = first-bytes s ∙ r .read })
 
   pub first-lists : (allowance : ℕ) (bytes sizes : List ℕ) (o : Left) → Lists first allowance bytes sizes o ↔ Lists s allowance bytes sizes o
   first-lists allowance bytes sizes o = (forth, back)
     where
       forth : {o : Left} → Lists first allowance bytes sizes o → Lists s allowance bytes sizes o
-      forth (Lists.faulty {number = q} {place = p} r) = Lists.faulty (first-refused q p .0 r)
+      forth (Lists.faulty {f = f} r) = Lists.faulty (first-refused f .0 r)
       forth (Lists.sheet {X = X} a l) = Lists.sheet (first-accepted X .0 a) l
 
       back : {o : Left} → Lists s allowance bytes sizes o → Lists first allowance bytes sizes o
-      back (Lists.faulty {number = q} {place = p} r) = Lists.faulty (first-refused q p .1 r)
+      back (Lists.faulty {f = f} r) = Lists.faulty (first-refused f .1 r)
       back (Lists.sheet {X = X} a l) = Lists.sheet (first-accepted X .1 a) l

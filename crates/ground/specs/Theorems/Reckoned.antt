@@ -19,7 +19,7 @@ use lib.Dec.{ltb}
 use lib.ListN.{length}
 use Rattle.ground.specs.Meanings.Exactly.{_∈_, Enumerates, Counts}
 use Rattle.ground.specs.Meanings.Group.{at, tab, move, First, _≼_}
-use Rattle.ground.specs.Meanings.Sheet.{most-carriers, most-risers, Sheet, Rule, Outcome, got, refused, jobSheet, isIn, isPairIn, Accepted}
+use Rattle.ground.specs.Meanings.Sheet.{opened-beyond, listed-beyond, row-not-whole, buffers-not-fitting, fault, noFault, most-carriers, most-risers, Sheet, Rule, Outcome, got, refused, jobSheet, isIn, isPairIn, Accepted}
 use Rattle.ground.specs.Meanings.Plans.{risers, list, Row, Allows, Keeps, Plan, ImageOn, Opened, ClassSize, OpenedIs, TotalIs}
 use Rattle.ground.specs.Meanings.Listing.{Line, rowsOf, sizesOf, Ascending, onSheet, Listable, Listing, room, flat, over, filled, Left, left, ListsOn, beyond-allowance, beyond-room, listed, Lists}
 use Rattle.ground.specs.Meanings.Folding.{Whole, Fitting, Folded, folded, FoldsOn, not-whole, not-fitting, carried, Folds}
@@ -200,14 +200,14 @@ reckonOn X allowance bytes sizes =
     let opened : ℕ = length (openedRows X) in
     let F : List Line = linesOf X in
     cond (ltb allowance opened)
-    (left 10 0 0 allowance 0 (filled 255 bytes) (filled 0 sizes))
+    (left (fault opened-beyond 0) 0 allowance 0 (filled 255 bytes) (filled 0 sizes))
     (cond (ltb (room (risers X) bytes sizes) (length F))
-    (left 11 0 (length F) opened (length (plansOf X)) (filled 255 bytes) (filled 0 sizes))
-    (left 0 0 (length F) opened (length (plansOf X)) (over (flat (rowsOf F)) bytes) (over (sizesOf F) sizes)))
+    (left (fault listed-beyond 0) (length F) opened (length (plansOf X)) (filled 255 bytes) (filled 0 sizes))
+    (left noFault (length F) opened (length (plansOf X)) (over (flat (rowsOf F)) bytes) (over (sizesOf F) sizes)))
 
 unfoldable pub reckonRead : Outcome Sheet → ℕ → List ℕ → List ℕ → Left
 reckonRead (got X end) allowance bytes sizes = reckonOn X allowance bytes sizes
-reckonRead (refused q p) allowance bytes sizes = left q p 0 0 0 bytes sizes
+reckonRead (refused f) allowance bytes sizes = left f 0 0 0 bytes sizes
 
 unfoldable pub reckonList : List ℕ → ℕ → List ℕ → List ℕ → Left
 reckonList s allowance bytes sizes = reckonRead (jobSheet s 0) allowance bytes sizes
@@ -227,9 +227,9 @@ reckoned-on X Z allowance bytes sizes = go (ltb allowance (length (openedRows X)
 
     go : (b : Bool) → ltb allowance (length (openedRows X)) ≡ b → (c : Bool) → ltb (room (risers X) bytes sizes) (length (linesOf X)) ≡ c
         → ListsOn (onSheet X) allowance bytes sizes
-        (cond b (left 10 0 0 allowance 0 (filled 255 bytes) (filled 0 sizes))
-        (cond c (left 11 0 (length (linesOf X)) (length (openedRows X)) (length (plansOf X)) (filled 255 bytes) (filled 0 sizes))
-        (left 0 0 (length (linesOf X)) (length (openedRows X)) (length (plansOf X)) (over (flat (rowsOf (linesOf X))) bytes) (over (sizesOf (linesOf X)) sizes))))
+        (cond b (left (fault opened-beyond 0) 0 allowance 0 (filled 255 bytes) (filled 0 sizes))
+        (cond c (left (fault listed-beyond 0) (length (linesOf X)) (length (openedRows X)) (length (plansOf X)) (filled 255 bytes) (filled 0 sizes))
+        (left noFault (length (linesOf X)) (length (openedRows X)) (length (plansOf X)) (over (flat (rowsOf (linesOf X))) bytes) (over (sizesOf (linesOf X)) sizes))))
     go true e c f = beyond-allowance opens (ltb-true _ _ e)
     go false e true f = beyond-room opens (ltb-false _ _ e) totals (lines-listing Z) (ltb-true _ _ f)
     go false e false f = listed opens (ltb-false _ _ e) totals (lines-listing Z) (ltb-false _ _ f)
@@ -240,7 +240,7 @@ reckoned-list s allowance bytes sizes = go (jobSheet s 0) refl
   where
     go : (o : Outcome Sheet) → jobSheet s 0 ≡ o → Lists s allowance bytes sizes (reckonRead o allowance bytes sizes)
     go (got X end) e = let a : Accepted s X = record { end = end; read = e } in Lists.sheet a (reckoned-on X (accepted-sound s X a) allowance bytes sizes)
-    go (refused q p) e = Lists.faulty (record { read = e })
+    go (refused f) e = Lists.faulty (record { read = e })
 
 -- ---- folding
 
@@ -280,13 +280,13 @@ unfoldable pub foldingMember : Sheet → List ℕ → List ℕ
 foldingMember X row = head (filter (folding? X row) (members (X .carriers) (X .swaps)))
 
 unfoldable pub foldOn : (X : Sheet) (row first member : List ℕ) → Dec (Whole X row) → Dec (Fitting X first member) → Folded
-foldOn X row first member (no f) d = folded 12 0 0 first member
-foldOn X row first member (yes w) (no f) = folded 13 0 0 first member
-foldOn X row first member (yes w) (yes t) = folded 0 0 (length (images (X .carriers) (X .swaps) row)) (move (foldingMember X row) row) (foldingMember X row)
+foldOn X row first member (no f) d = folded (fault row-not-whole 0) 0 first member
+foldOn X row first member (yes w) (no f) = folded (fault buffers-not-fitting 0) 0 first member
+foldOn X row first member (yes w) (yes t) = folded noFault (length (images (X .carriers) (X .swaps) row)) (move (foldingMember X row) row) (foldingMember X row)
 
 unfoldable pub foldRead : Outcome Sheet → List ℕ → List ℕ → List ℕ → Folded
 foldRead (got X end) row first member = foldOn X row first member (whole? X row) (fitting? X first member)
-foldRead (refused q p) row first member = folded q p 0 first member
+foldRead (refused f) row first member = folded f 0 first member
 
 unfoldable pub reckonFold : List ℕ → List ℕ → List ℕ → List ℕ → Folded
 reckonFold s row first member = foldRead (jobSheet s 0) row first member
@@ -304,7 +304,7 @@ module _ (X : Sheet) (Z : Sound X) (row : List ℕ) (w : Whole X row) where
       (head-in (filter (folding? X row) l) (i .by) (in-filter (folding? X row) l (i .by) (members-enum (Z .perms) .complete (i .by) (i .member)) good))
 
   folding-carries : (first member : List ℕ) → Fitting X first member
-      → FoldsOn X row first member (folded 0 0 (length (images (X .carriers) (X .swaps) row)) (move (foldingMember X row) row) (foldingMember X row))
+      → FoldsOn X row first member (folded noFault (length (images (X .carriers) (X .swaps) row)) (move (foldingMember X row) row) (foldingMember X row))
   folding-carries first member t =
       let g = foldingMember X row in
       let m = members-enum (Z .perms) .sound g (folding-member .0) in
@@ -326,4 +326,4 @@ reckoned-fold s row first member = go (jobSheet s 0) refl
     go (got X end) e =
         let a : Accepted s X = record { end = end; read = e } in
         Folds.sheet a (reckoned-fold-on X (accepted-sound s X a) row first member (whole? X row) (fitting? X first member))
-    go (refused q p) e = Folds.faulty (record { read = e })
+    go (refused f) e = Folds.faulty (record { read = e })

@@ -9,8 +9,8 @@ use Rattle.listing.proofs.list.Tie as tie
 read-sheet-requires : tie.Need-read-sheet-requires
 read-sheet-requires c κs = search needs
 
-enum-known-number : tie.Need-enum-known-number
-enum-known-number c = search needs
+enum-known-fault : tie.Need-enum-known-fault
+enum-known-fault c = search needs
 
 enum-known-carriers : tie.Need-enum-known-carriers
 enum-known-carriers c = search needs
@@ -32,7 +32,7 @@ settle-requires : tie.Need-settle-requires
 settle-requires c κs = search needs
 
 returns : tie.Need-returns
-returns c = refuses _ _ _ (c .before .before .before .read-sheet .ensures) (c .before .number .given .1)
+returns c = refuses _ _ _ (c .before .before .before .read-sheet .ensures) (c .before .fault .given .1)
 
 same-length : tie.Need-same-length
 same-length c = search needs
@@ -52,7 +52,7 @@ list-spec =
     tie.close
     (tie.spec
     read-sheet-requires
-    enum-known-number
+    enum-known-fault
     enum-known-carriers
     room-requires
     search-requires

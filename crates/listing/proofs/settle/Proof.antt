@@ -22,8 +22,11 @@ same-length c = search needs
 same-length-2 : tie.Need-same-length-2
 same-length-2 c = search needs
 
+of-requires : tie.Need-of-requires
+of-requires c κs = tt
+
 returns : tie.Need-returns
-returns c = let a = c .before .before .before .before .before .before .before .before .before .before .before .args in settled-over (a .room) (stateOf (a .t) (now (a .bytes)) (now (a .sizes))) (search needs) (c .before .before .before .before .before .before .fill-bytes .ensures) (c .before .before .clear-sizes .ensures)
+returns c = let a = c .before .before .before .before .before .before .before .before .before .before .before .before .args in settled-over (a .room) (stateOf (a .t) (now (a .bytes)) (now (a .sizes))) (search needs) (c .before .before .before .before .before .before .before .fill-bytes .ensures) (c .before .before .before .clear-sizes .ensures) (c .of .ensures)
 
 fill-bytes-requires-2 : tie.Need-fill-bytes-requires-2
 fill-bytes-requires-2 c κs = search needs
@@ -37,11 +40,17 @@ same-length-3 c = search needs
 same-length-4 : tie.Need-same-length-4
 same-length-4 c = search needs
 
+of-requires-2 : tie.Need-of-requires-2
+of-requires-2 c κs = tt
+
 returns-2 : tie.Need-returns-2
-returns-2 c = let a = c .before .before .before .before .before .before .before .before .before .before .before .before .before .args in settled-crowded (a .room) (stateOf (a .t) (now (a .bytes)) (now (a .sizes))) (search needs) (search needs) (c .before .before .before .before .before .before .fill-bytes2 .ensures) (c .before .before .clear-sizes2 .ensures)
+returns-2 c = let a = c .before .before .before .before .before .before .before .before .before .before .before .before .before .before .args in settled-crowded (a .room) (stateOf (a .t) (now (a .bytes)) (now (a .sizes))) (search needs) (search needs) (c .before .before .before .before .before .before .before .fill-bytes2 .ensures) (c .before .before .before .clear-sizes2 .ensures) (c .of2 .ensures)
+
+none-requires : tie.Need-none-requires
+none-requires c κs = tt
 
 returns-3 : tie.Need-returns-3
-returns-3 c = let a = c .before .before .before .before .before .args in settled-fits (a .room) (stateOf (a .t) (now (a .bytes)) (now (a .sizes))) (search needs) (search needs)
+returns-3 c = let a = c .before .before .before .before .before .before .args in settled-fits (a .room) (stateOf (a .t) (now (a .bytes)) (now (a .sizes))) (search needs) (search needs) (c .none .ensures)
 
 pub settle-spec : {M : Type 1} → statement M
 settle-spec =
@@ -49,12 +58,15 @@ settle-spec =
     (tie.spec
     fill-bytes-requires
     clear-sizes-requires
+    of-requires
     same-length
     same-length-2
     returns
     fill-bytes-requires-2
     clear-sizes-requires-2
+    of-requires-2
     same-length-3
     same-length-4
     returns-2
+    none-requires
     returns-3)

@@ -20,11 +20,11 @@ loop-holds c = pairs-start _ _ _ _ _ _ _ _
 pair-at-requires : tie.Need-pair-at-requires Inv-loop μ-loop
 pair-at-requires c κs = search needs
 
-enum-known-number : tie.Need-enum-known-number Inv-loop μ-loop
-enum-known-number c = search needs
+enum-known-fault : tie.Need-enum-known-fault Inv-loop μ-loop
+enum-known-fault c = search needs
 
 returns : tie.Need-returns Inv-loop μ-loop
-returns c = pairs-refused _ _ _ _ _ _ _ _ _ _ _ _ (c .before .before .before .before .before .loop .inv) (c .before .before .before .before .loop-test .taken) (sym (c .before .number .given .1) ∙ c .before .before .before .pair-at .ensures)
+returns c = pairs-refused _ _ _ _ _ _ _ _ _ _ _ _ (c .before .before .before .before .before .loop .inv) (c .before .before .before .before .loop-test .taken) (sym (c .before .fault .given .1) ∙ c .before .before .before .pair-at .ensures)
 
 enum-known-u : tie.Need-enum-known-u Inv-loop μ-loop
 enum-known-u c = search needs
@@ -67,7 +67,7 @@ read-pairs-spec =
     μ-loop
     loop-holds
     pair-at-requires
-    enum-known-number
+    enum-known-fault
     returns
     enum-known-u
     mul-key

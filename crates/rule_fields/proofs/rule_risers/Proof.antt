@@ -9,17 +9,23 @@ use Rattle.rule_fields.proofs.rule_risers.Tie as tie
 two-at-requires : tie.Need-two-at-requires
 two-at-requires c κs = search needs
 
-enum-known-number : tie.Need-enum-known-number
-enum-known-number c = search needs
+enum-known-fault : tie.Need-enum-known-fault
+enum-known-fault c = search needs
 
 enum-known-a : tie.Need-enum-known-a
 enum-known-a c = search needs
 
+of-requires : tie.Need-of-requires
+of-requires c κs = tt
+
 returns : tie.Need-returns
-returns c = pair-fails _ _ _ _ _ (sym (c .before .before .a .given .1) ∙ c .before .before .before .before .two-at .ensures) (ordered-no-left _ _ _ (c .if1 .taken))
+returns c = pair-fails _ _ _ _ _ (sym (c .before .before .before .a .given .1) ∙ c .before .before .before .before .before .two-at .ensures) (ordered-no-left _ _ _ (c .before .if1 .taken)) (c .of .ensures)
+
+of-requires-2 : tie.Need-of-requires-2
+of-requires-2 c κs = tt
 
 returns-2 : tie.Need-returns-2
-returns-2 c = pair-fails _ _ _ _ _ (sym (c .before .before .before .a .given .1) ∙ c .before .before .before .before .before .two-at .ensures) (ordered-no-right _ _ _ (c .before .if1 .left) (c .if2 .taken))
+returns-2 c = pair-fails _ _ _ _ _ (sym (c .before .before .before .before .a .given .1) ∙ c .before .before .before .before .before .before .two-at .ensures) (ordered-no-right _ _ _ (c .before .before .if1 .left) (c .before .if2 .taken)) (c .of2 .ensures)
 
 mul-key : tie.Need-mul-key
 mul-key c = search needs
@@ -27,11 +33,14 @@ mul-key c = search needs
 add-key : tie.Need-add-key
 add-key c = search needs
 
+of-requires-3 : tie.Need-of-requires-3
+of-requires-3 c κs = tt
+
 returns-3 : tie.Need-returns-3
-returns-3 c = pair-early _ _ _ _ _ (sym (c .before .before .before .before .a .given .1) ∙ c .before .before .before .before .before .before .two-at .ensures) (ordered-yes _ _ _ (c .before .before .if1 .left) (c .before .if2 .left)) (c .if3 .taken)
+returns-3 c = pair-early _ _ _ _ _ (sym (c .before .before .before .before .before .a .given .1) ∙ c .before .before .before .before .before .before .before .two-at .ensures) (ordered-yes _ _ _ (c .before .before .before .if1 .left) (c .before .before .if2 .left)) (c .before .if3 .taken) (c .of3 .ensures)
 
 returns-4 : tie.Need-returns-4
-returns-4 c = pair-short _ _ _ _ _ (sym (c .before .number .given .1) ∙ c .before .before .before .two-at .ensures)
+returns-4 c = pair-short _ _ _ _ _ (sym (c .before .fault .given .1) ∙ c .before .before .before .two-at .ensures)
 
 returns-5 : tie.Need-returns-5
 returns-5 c = pair-is _ _ _ _ _ (sym (c .before .before .before .before .a .given .1) ∙ c .before .before .before .before .before .before .two-at .ensures) (ordered-yes _ _ _ (c .before .before .if1 .left) (c .before .if2 .left)) (c .if3 .left)
@@ -41,12 +50,15 @@ rule-risers-spec =
     tie.close
     (tie.spec
     two-at-requires
-    enum-known-number
+    enum-known-fault
     enum-known-a
+    of-requires
     returns
+    of-requires-2
     returns-2
     mul-key
     add-key
+    of-requires-3
     returns-3
     returns-4
     returns-5)

@@ -10,8 +10,8 @@ use Rattle.rule_fields.proofs.rules_section.Tie as tie
 count-at-requires : tie.Need-count-at-requires
 count-at-requires c κs = search needs
 
-enum-known-number : tie.Need-enum-known-number
-enum-known-number c = search needs
+enum-known-fault : tie.Need-enum-known-fault
+enum-known-fault c = search needs
 
 enum-known-rules : tie.Need-enum-known-rules
 enum-known-rules c = search needs
@@ -19,17 +19,17 @@ enum-known-rules c = search needs
 read-rules-requires : tie.Need-read-rules-requires
 read-rules-requires c κs = (c .before .before .before .before .before .before .before .pre, count-most _ _ _ _ (sym (c .before .before .before .rules .given .1) ∙ c .before .before .before .before .before .count-at .ensures))
 
-enum-known-number-2 : tie.Need-enum-known-number-2
-enum-known-number-2 c = search needs
+enum-known-fault-2 : tie.Need-enum-known-fault-2
+enum-known-fault-2 c = search needs
 
 enum-known-next : tie.Need-enum-known-next
 enum-known-next c = search needs
 
 returns : tie.Need-returns
-returns c = section-no-count _ _ _ _ _ (sym (c .before .number .given .1) ∙ c .before .before .before .count-at .ensures)
+returns c = section-no-count _ _ _ _ _ (sym (c .before .fault .given .1) ∙ c .before .before .before .count-at .ensures)
 
 returns-2 : tie.Need-returns-2
-returns-2 c = section-no-item _ _ _ _ _ (sym (c .before .before .before .before .before .before .before .rules .given .1) ∙ c .before .before .before .before .before .before .before .before .before .count-at .ensures) (c .before .before .before .read-rules .ensures) (c .before .number2 .given .1)
+returns-2 c = section-no-item _ _ _ _ _ (sym (c .before .before .before .before .before .before .before .rules .given .1) ∙ c .before .before .before .before .before .before .before .before .before .count-at .ensures) (c .before .before .before .read-rules .ensures) (c .before .fault2 .given .1)
 
 returns-3 : tie.Need-returns-3
 returns-3 c = section-is _ _ _ _ _ (sym (c .before .before .before .before .before .before .before .rules .given .1) ∙ c .before .before .before .before .before .before .before .before .before .count-at .ensures) (c .before .before .before .read-rules .ensures) (c .before .next .given .1)
@@ -39,10 +39,10 @@ rules-section-spec =
     tie.close
     (tie.spec
     count-at-requires
-    enum-known-number
+    enum-known-fault
     enum-known-rules
     read-rules-requires
-    enum-known-number-2
+    enum-known-fault-2
     enum-known-next
     returns
     returns-2

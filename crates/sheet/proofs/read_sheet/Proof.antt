@@ -14,8 +14,8 @@ read-sections-requires c κs = search needs
 enum-known-carriers : tie.Need-enum-known-carriers
 enum-known-carriers c = search needs
 
-enum-known-number : tie.Need-enum-known-number
-enum-known-number c = search needs
+enum-known-fault : tie.Need-enum-known-fault
+enum-known-fault c = search needs
 
 blank-requires-2 : tie.Need-blank-requires-2
 blank-requires-2 c κs = search needs
@@ -24,7 +24,7 @@ returns : tie.Need-returns
 returns c = reads-accepted (c .before .before .before .read-sections .ensures) (c .before .carriers .given .1)
 
 returns-2 : tie.Need-returns-2
-returns-2 c = reads-refused (c .before .before .before .before .before .before .before .before .read-sections .ensures) (c .before .before .before .before .before .before .number .given .1) (c .blank2 .ensures)
+returns-2 c = reads-refused (c .before .before .before .before .before .before .before .before .read-sections .ensures) (c .before .before .before .before .before .before .fault .given .1) (c .blank2 .ensures)
 
 pub read-sheet-spec : {M : Type 1} → statement M
 read-sheet-spec =
@@ -33,7 +33,7 @@ read-sheet-spec =
     blank-requires
     read-sections-requires
     enum-known-carriers
-    enum-known-number
+    enum-known-fault
     blank-requires-2
     returns
     returns-2)
