@@ -1,7 +1,6 @@
 -- Masks: a set of carriers as the bits of one number, carrier c at the digit worth 2 ^ c.
 --
 --   Has m c                 carrier c is in the mask m
---   Tells r P               the test's answer r is whether P holds
 --   Both a b r              r has the carriers that are in a and in b
 --   With m c r              r has the carriers of m, and c
 --   Least m c               c is the least carrier of m, and below 16
@@ -28,15 +27,12 @@ use lib.Pow.{pow-mono, pow-lt, shr-shr}
 use lib.Bits.{bitAnd, bitOr, and-step, and-shr, and-self, and-le-r, or-step, or-shr}
 use lib.Count.{trailingZeros, under}
 use Rattle.ground.specs.Meanings.Group.{at}
+use Rattle.ground.specs.Laws.Telling.{Tells}
 
 pub record Has (m c : ℕ) : Type 0 where
   pub bit : m / 2 ^ c % 2 ≡ 1
 
 -- ---- what the functions promise
-
-pub record Tells (r : Bool) (P : Type 0) : Type 0 where
-  pub yes : r ≡ true → P
-  pub no : r ≡ false → ¬ P
 
 pub record Both (a b r : ℕ) : Type 0 where
   pub shared : (c : ℕ) → Has r c → Has a c × Has b c

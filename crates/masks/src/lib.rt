@@ -3,7 +3,8 @@
 ghost use mathlib.Core.Path.{_≡_};
 ghost use Prim.Native.Nat.{_+_, _<_, _≤_};
 ghost use lib.ListN.{length};
-ghost use Rattle.masks.specs.Masks.{Has, Tells, Both, With, Least, Rest, Marked};
+ghost use Rattle.ground.specs.Laws.Telling.{Tells};
+ghost use Rattle.masks.specs.Masks.{Has, Both, With, Least, Rest, Marked};
 
 // Whether carrier c is in the mask.
 pub fn has(mask: u16, c: usize) -> bool
