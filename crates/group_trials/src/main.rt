@@ -14,7 +14,7 @@ use libc::STDOUT_FILENO;
 const NONE: u8 = CARRIERS as u8;
 
 // A byte as a number of swaps.
-fn wide(byte: u8) -> usize
+fn count_of_byte(byte: u8) -> usize
     ensures { λ r. ⌜ r ≡ byte ⌝ }
     ensures { λ r. ⌜ r ≤ 255 ⌝ }
 {
@@ -55,7 +55,7 @@ fn answer_group() -> bool {
     if io::read_full(STDIN_FILENO, &mut size) == 0 {
         return false;
     }
-    let count = wide(size[0]);
+    let count = count_of_byte(size[0]);
     let swaps = read_swaps(count);
     let mut lengths = [0u8; CARRIERS];
     if chain_lengths(&swaps[..count], &mut lengths) {

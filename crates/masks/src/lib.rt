@@ -1,6 +1,5 @@
 // Sets of carriers as the bits of one number: whether a carrier is in, what two sets share, one carrier more, the least
 // carrier and those after it, and the set that a row of a table marks.
-ghost use mathlib.Core.Path.{_≡_};
 ghost use Prim.Native.Nat.{_+_, _<_, _≤_};
 ghost use lib.ListN.{length};
 ghost use Rattle.ground.specs.Meanings.Sheet.{most-carriers};
