@@ -1,6 +1,8 @@
 -- Facts about the meanings, each stated once over the width and the number of risers. In the order in which they stand on each other:
 --
 --   Lists, Enumerations   places and members of a list; two enumerations of one property have one length
+--   Filling, Copying      a list that a loop fills, and one that a loop copies into another, one entry a turn
+--   Telling               what the answer of a test says
 --   Permutations          products and inverses; Newness tells a permutation by its entries
 --   Members               the group is closed under products and inverses
 --   Closure               what is reached by steps, as a list: one search for orbits, images and members
@@ -9,6 +11,7 @@
 --   ClassSizes, Chains    class size as the product of orbit lengths, along a chain
 --   Filter                few swaps that generate what many do
 --   Holding               the members that hold a row; first and class size by the last carrier
+--   OrbitLengths          the lengths of all orbits together
 --   Padding               the group at a wider width is the same group
 --   Classes               kinds: one first row in each class, and the sizes add up
 --   Reading, Sections     what readings give, and the sections of a sheet
@@ -21,6 +24,9 @@
 --   Choices, Images       all rows drawn from lists, all images of a row, all members, as lists
 pub mod Lists
 pub mod Enumerations
+pub mod Filling
+pub mod Copying
+pub mod Telling
 pub mod Permutations
 pub mod Newness
 pub mod Members
@@ -33,6 +39,7 @@ pub mod ClassSizes
 pub mod Chains
 pub mod Filter
 pub mod Holding
+pub mod OrbitLengths
 pub mod Padding
 pub mod Classes
 pub mod Reading

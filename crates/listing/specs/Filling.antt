@@ -6,7 +6,7 @@ use Prim.Native.Nat.{ℕ, zero, suc, _≤_}
 use lib.ListN.{length, replicate}
 use Rattle.ground.specs.Meanings.Group.{tab}
 use Rattle.ground.specs.Meanings.Listing.{filled}
-use Rattle.swaps.specs.Filling.{Filled, filled-table}
+use Rattle.ground.specs.Laws.Filling.{Filled, filled-table}
 
 table-constant : (n x : ℕ) → tab n (λ j. x) ≡ replicate n x
 table-constant zero x = refl

@@ -1,10 +1,9 @@
 -- Masks: a set of carriers as the bits of one number, carrier c at the digit worth 2 ^ c.
 --
 --   Has m c                 carrier c is in the mask m
---   Tells r P               the test's answer r is whether P holds
 --   Both a b r              r has the carriers that are in a and in b
 --   With m c r              r has the carriers of m, and c
---   Least m c               c is the least carrier of m, and below 16
+--   LeastIn m c             c is the least carrier of m, and below 16
 --   Rest m r                r has the carriers of m after the least one
 --   Marked l from k r       r has the carriers below k whose entry in l, from the place `from` on, is not 0
 --
@@ -13,7 +12,6 @@
 -- least or after it (`rest-or-least`). Each function has the law that its promise is read from.
 -- Assumes nothing.
 use mathlib.Core.Path.{_≡_, refl, sym, ap, _∙_}
-use mathlib.Core.Bool.{Bool, true, false}
 use mathlib.Core.Logic.{_⊎_, inl, inr, _↔_}
 use mathlib.Core.List.{List}
 use Prim.Native.Nat.{ℕ, zero, suc, _+_, _-_, _*_, _/_, _%_, _^_, _≤_, _<_, min, max}
@@ -28,15 +26,12 @@ use lib.Pow.{pow-mono, pow-lt, shr-shr}
 use lib.Bits.{bitAnd, bitOr, and-step, and-shr, and-self, and-le-r, or-step, or-shr}
 use lib.Count.{trailingZeros, under}
 use Rattle.ground.specs.Meanings.Group.{at}
+use Rattle.ground.specs.Laws.Telling.{Tells}
 
 pub record Has (m c : ℕ) : Type 0 where
   pub bit : m / 2 ^ c % 2 ≡ 1
 
 -- ---- what the functions promise
-
-pub record Tells (r : Bool) (P : Type 0) : Type 0 where
-  pub yes : r ≡ true → P
-  pub no : r ≡ false → ¬ P
 
 pub record Both (a b r : ℕ) : Type 0 where
   pub shared : (c : ℕ) → Has r c → Has a c × Has b c
@@ -47,15 +42,15 @@ pub record With (m c r : ℕ) : Type 0 where
   pub kept : (i : ℕ) → Has m i → Has r i
   pub added : Has r c
 
-pub record Least (m c : ℕ) : Type 0 where
+pub record LeastIn (m c : ℕ) : Type 0 where
   pub below : c < 16
   pub has : Has m c
   pub none : (i : ℕ) → i < c → ¬ Has m i
 
 pub record Rest (m r : ℕ) : Type 0 where
   pub only : (i : ℕ) → Has r i → Has m i
-  pub after : (i : ℕ) → Has r i → (c : ℕ) → Least m c → c < i
-  pub all : (i c : ℕ) → Least m c → Has m i → c < i → Has r i
+  pub after : (i : ℕ) → Has r i → (c : ℕ) → LeastIn m c → c < i
+  pub all : (i c : ℕ) → LeastIn m c → Has m i → c < i → Has r i
   pub less : r < m
 
 pub record Marked (l : List ℕ) (from k r : ℕ) : Type 0 where
@@ -214,7 +209,7 @@ trailing-none (suc k) m i l h = go (m % 2) i refl l (λ i. trailing-none k (m / 
     go zero (suc i) e l n h = n i (omega arith) (has-high m i .0 h)
     go (suc d) i e l n h = omega arith
 
-pub least-trailing : (m : ℕ) → 0 < m → m < 2 ^ 16 → Least m (trailingZeros 16 m)
+pub least-trailing : (m : ℕ) → 0 < m → m < 2 ^ 16 → LeastIn m (trailingZeros 16 m)
 least-trailing m p l = record { below = has-below 16 l (trailing-has 16 m p l); has = trailing-has 16 m p l; none = trailing-none 16 m }
 
 -- a mask and the number before it share the digits above the lowest that is set
@@ -235,18 +230,18 @@ lower-even m p f =
     let f : ¬ (m % 2 ≡ 1) = λ e. f (has-low m .1 e) in
     lower-half m ∙ ap (bitAnd (m / 2)) (let e : (m - 1) / 2 ≡ m / 2 - 1 = omega arith in e)
 
-least-half : {m c : ℕ} → Least m (suc c) → Least (m / 2) c
+least-half : {m c : ℕ} → LeastIn m (suc c) → LeastIn (m / 2) c
 least-half {m} {c} s = record { below = omega arith; has = has-high m c .0 (s .has); none = λ i l h. s .none (suc i) (omega arith) (has-high m i .1 h) }
 
-lower-deep : {m c : ℕ} → Least m (suc c) → lower m / 2 ≡ lower (m / 2)
+lower-deep : {m c : ℕ} → LeastIn m (suc c) → lower m / 2 ≡ lower (m / 2)
 lower-deep {m} s = lower-even m (has-some (s .has)) (s .none 0 (omega arith))
 
-lower-after : (m c i : ℕ) → Least m c → Has (lower m) i → c < i
+lower-after : (m c i : ℕ) → LeastIn m c → Has (lower m) i → c < i
 lower-after m c zero s h = absurd (lower-low m (has-some (s .has)) h)
 lower-after m zero (suc i) s h = omega arith
 lower-after m (suc c) (suc i) s h = omega (arith, lower-after (m / 2) c i (least-half s) (rw (lower-deep s) at (has-high (lower m) i .0 h)))
 
-lower-all : (m c i : ℕ) → Least m c → Has m i → c < i → Has (lower m) i
+lower-all : (m c i : ℕ) → LeastIn m c → Has m i → c < i → Has (lower m) i
 lower-all m c zero s h l = absurd (omega arith)
 lower-all m zero (suc i) s h l = has-high (lower m) i .1 (rw (lower-odd m (s .has)) (has-high m i .0 h))
 lower-all m (suc c) (suc i) s h l = has-high (lower m) i .1 (rw (lower-deep s) (lower-all (m / 2) c i (least-half s) (has-high m i .0 h) (omega arith)))
@@ -261,7 +256,7 @@ rest-and m p = record {
 
 -- ---- the least carrier and those after it are all
 
-pub least-one : {m c d : ℕ} → Least m c → Least m d → c ≡ d
+pub least-one : {m c d : ℕ} → LeastIn m c → LeastIn m d → c ≡ d
 least-one {m} {c} {d} s t = go (decLt c d) (decLt d c)
   where
     go : Dec (c < d) → Dec (d < c) → c ≡ d
@@ -269,7 +264,7 @@ least-one {m} {c} {d} s t = go (decLt c d) (decLt d c)
     go (no n) (yes l) = absurd (s .none d l (t .has))
     go (no n) (no o) = omega arith
 
-pub rest-or-least : {m c r i : ℕ} → Least m c → Rest m r → Has m i → (i ≡ c) ⊎ Has r i
+pub rest-or-least : {m c r i : ℕ} → LeastIn m c → Rest m r → Has m i → (i ≡ c) ⊎ Has r i
 rest-or-least {m} {c} {r} {i} s t h = go (decLt i c) (decLt c i)
   where
     go : Dec (i < c) → Dec (c < i) → (i ≡ c) ⊎ Has r i

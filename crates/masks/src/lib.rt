@@ -1,9 +1,10 @@
 // Sets of carriers as the bits of one number: whether a carrier is in, what two sets share, one carrier more, the least
 // carrier and those after it, and the set that a row of a table marks.
-ghost use mathlib.Core.Path.{_≡_};
 ghost use Prim.Native.Nat.{_+_, _<_, _≤_};
 ghost use lib.ListN.{length};
-ghost use Rattle.masks.specs.Masks.{Has, Tells, Both, With, Least, Rest, Marked};
+ghost use Rattle.ground.specs.Meanings.Sheet.{most-carriers};
+ghost use Rattle.ground.specs.Laws.Telling.{Tells};
+ghost use Rattle.masks.specs.Masks.{Has, Both, With, LeastIn, Rest, Marked};
 
 // Whether carrier c is in the mask.
 pub fn has(mask: u16, c: usize) -> bool
@@ -31,7 +32,7 @@ pub fn with(mask: u16, c: usize) -> u16
 // The least carrier of a mask that has one.
 pub fn first(mask: u16) -> usize
     requires { ⌜ 0 < mask ⌝ }
-    ensures { λ c. ⌜ Least mask c ⌝ }
+    ensures { λ c. ⌜ LeastIn mask c ⌝ }
 {
     u16::trailing_zeros(mask) as usize
 }
@@ -46,7 +47,7 @@ pub fn rest(mask: u16) -> u16
 
 // The carriers among the first k whose entry is not 0, of the entries from `at` on.
 pub fn marked(table: &[u8], at: usize, k: usize) -> u16
-    requires { ⌜ (k ≤ 15) × (at + k ≤ length (now table)) ⌝ }
+    requires { ⌜ (k ≤ most-carriers) × (at + k ≤ length (now table)) ⌝ }
     ensures { λ r. ⌜ Marked (now (table .entry)) at k r ⌝ }
 {
     let mut mask: u16 = 0;

@@ -1,8 +1,6 @@
 -- The loops of this crate, turn by turn, over plain lists, and the test of a permutation.
 --
---   Filling   a list that a loop fills from the front: the identity, a product, a row that is moved
 --   Undoing   the inverse, filled from the last place to the first
 --   Marking   the test of that, byte by byte, with a mark for each carrier that has stood
-pub mod Filling
 pub mod Undoing
 pub mod Marking

@@ -2,11 +2,11 @@
 --
 --   permutes w l          l is a permutation of 0 to k − 1 for its length k, which is at most w
 --   Passed k l i          the first i entries of l are below k and differ, so that the test is left to the rest
---   Marks w marks done    the carriers below w with mark 1 are those in `done`
+--   Stood w marks done    the carriers below w with mark 1 are those in `done`
 --   Tested w l marks i    the first i entries of l have passed, and the marks are of those
 --
 -- A turn ends the test where an entry is too high (`tested-high`) or has stood before (`tested-again`), and goes on otherwise
--- (`tested-more`); at the end every entry has passed (`tested-end`). `Marks` alone speaks of how it is kept in mind what has
+-- (`tested-more`); at the end every entry has passed (`tested-end`). `Stood` alone speaks of how it is kept in mind what has
 -- stood.
 -- Assumes nothing.
 use mathlib.Core.Path.{_≡_, refl, sym, _∙_}
@@ -54,23 +54,23 @@ module _ {k : ℕ} {l : List ℕ} {i : ℕ} (s : Passed k l i) where
 
 -- ---- what has stood
 
-pub record Marks (w : ℕ) (marks done : List ℕ) : Type 0 where
+pub record Stood (w : ℕ) (marks done : List ℕ) : Type 0 where
   pub size : length marks ≡ w
   pub told : (c : ℕ) → c < w → isIn c done ≡ eqb (at marks c) 1
 
-marks-none : (w : ℕ) → Marks w (replicate w 0) []
+stood-none : (w : ℕ) → Stood w (replicate w 0) []
 unfolding isIn
-marks-none w = record { size = length-replicate w 0; told = λ c l. rw (getD-replicate {A = ℕ} w c 0 0 l) }
+stood-none w = record { size = length-replicate w 0; told = λ c l. rw (getD-replicate {A = ℕ} w c 0 0 l) }
 
-module _ {w : ℕ} {marks done : List ℕ} (s : Marks w marks done) (c : ℕ) (h : c < w) where
+module _ {w : ℕ} {marks done : List ℕ} (s : Stood w marks done) (c : ℕ) (h : c < w) where
   marked : at marks c ≡ 1 → isIn c done ≡ true
   marked e = s .told c h ∙ eq-eqb (at marks c) 1 e
 
   unmarked : (at marks c ≡ 1 → ⊥) → isIn c done ≡ false
   unmarked d = s .told c h ∙ ne-eqb (at marks c) 1 d
 
-  marks-more : Marks w (set marks c 1) (done ++ (c ∷ []))
-  marks-more = record { size = length-set marks c 1 ∙ s .size; told = λ d l. isIn-snoc d done c ∙ told d l (ℕ-discrete d c) }
+  stood-more : Stood w (set marks c 1) (done ++ (c ∷ []))
+  stood-more = record { size = length-set marks c 1 ∙ s .size; told = λ d l. isIn-snoc d done c ∙ told d l (ℕ-discrete d c) }
     where
       told : (d : ℕ) → d < w → Dec (d ≡ c) → (isIn d done || eqb d c) ≡ eqb (at (set marks c 1) d) 1
       told d l (yes e) = rw (eq-eqb d c e, or-true (isIn d done), e, getD-set-same marks c 1 0 (omega (arith, s .size)))
@@ -84,13 +84,13 @@ permutes w l = leb (length l) w && allNew (length l) [] l
 pub record Tested (w : ℕ) (l marks : List ℕ) (i : ℕ) : Type 0 where
   pub few : length l ≤ w
   pub passed : Passed (length l) l i
-  pub stood : Marks w marks (take i l)
+  pub stood : Stood w marks (take i l)
 
 pub tested-many : (w : ℕ) (l : List ℕ) → w < length l → false ≡ permutes w l
 tested-many w l h = rw (lt-leb (length l) w h)
 
 pub tested-start : (w : ℕ) (l : List ℕ) → length l ≤ w → Tested w l (replicate w 0) 0
-tested-start w l h = record { few = h; passed = passed-start (length l) l; stood = marks-none w }
+tested-start w l h = record { few = h; passed = passed-start (length l) l; stood = stood-none w }
 
 module _ {w : ℕ} {l marks : List ℕ} {i : ℕ} (s : Tested w l marks i) where
   answer : (b : Bool) → allNew (length l) [] l ≡ b → b ≡ permutes w l
@@ -114,5 +114,5 @@ module _ {w : ℕ} {l marks : List ℕ} {i : ℕ} (s : Tested w l marks i) where
       tested-more d = record {
         few = s .few;
         passed = passed-more (s .passed) h m (unmarked (s .stood) (at l i) fits d);
-        stood = rw (add-one i, take-suc l i 0 h) (marks-more (s .stood) (at l i) fits);
+        stood = rw (add-one i, take-suc l i 0 h) (stood-more (s .stood) (at l i) fits);
       }

@@ -32,6 +32,13 @@ impl Swap {
     }
 }
 
+// A byte as an index.
+pub fn index_of_byte(byte: u8) -> usize
+    ensures { λ r. ⌜ r ≡ byte ⌝ }
+{
+    byte as usize
+}
+
 // The carrier that g takes c to; 0 for what is no carrier.
 fn taken(g: [u8; 15], c: u8) -> u8
     ensures { λ r. ⌜ r ≡ at g c ⌝ }

@@ -5,13 +5,13 @@
 -- decide where each case is decided, `row?` tells rows apart; `fill-more` is one turn of a loop that fills a table.
 -- Assumes nothing.
 use mathlib.Core.Path.{_≡_, refl, sym, ap, ap₂, _∙_}
-use mathlib.Core.List.{List, [], _∷_, map, List·Memᴰ·head, List·Memᴰ·tail, List·Memᴰ·cases-cons, List·Memᴰ·not-nil, head-eq-of-cons-eq, tail-eq-of-cons-eq}
+use mathlib.Core.List.{List, [], _∷_, map, List·Memᴰ·head, List·Memᴰ·tail, List·Memᴰ·cases-cons, List·Memᴰ·not-nil, Memᴰ·append-left, head-eq-of-cons-eq, tail-eq-of-cons-eq}
 use mathlib.Core.Logic.{_⊎_, inl, inr}
 use Prim.Native.Nat.{ℕ, zero, suc, _+_, _<_, zero-le, suc-le-suc}
 use native.Mathlib.Nat.{le-of-suc-le-suc, not-suc-le-zero, suc-inj, suc-ne-zero, zero-lt-suc}
 use native.Mathlib.Decide.{ℕ-discrete}
 use native.Mathlib.Omega.{arith}
-use lib.ListN.{length, getD, take, set}
+use lib.ListN.{length, getD, take, drop, set, take-append-drop}
 use lib.Seq.{getD-set-same, getD-set-other}
 use Rattle.ground.specs.Meanings.Exactly.{_∈_, Once}
 use Rattle.ground.specs.Meanings.Group.{at, tab}
@@ -48,6 +48,10 @@ pub mem-getD : {A : Type 0} (d : A) (l : List A) (i : ℕ) → i < length l → 
 mem-getD d [] i h = absurd (not-suc-le-zero h)
 mem-getD d (x ∷ l) zero h = List·Memᴰ·head refl
 mem-getD d (x ∷ l) (suc i) h = List·Memᴰ·tail (mem-getD d l i (le-of-suc-le-suc h))
+
+-- the first of a list are among it
+pub take-in : {A : Type 0} (n : ℕ) (l : List A) (x : A) → x ∈ take n l → x ∈ l
+take-in n l x m = rw (take-append-drop n l) at (Memᴰ·append-left (drop n l) m)
 
 -- the place of a member
 pub index-of : {A : Type 0} (d : A) {x : A} {l : List A} → x ∈ l → (i : ℕ) × (i < length l) × (getD l i d ≡ x)

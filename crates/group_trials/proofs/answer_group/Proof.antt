@@ -16,20 +16,20 @@ read-full-requires c κs = tt
 returns : tie.Need-returns
 returns c = tt
 
-array-read-wide : tie.Need-array-read-wide
-array-read-wide c = search needs
+array-read-count-of-byte : tie.Need-array-read-count-of-byte
+array-read-count-of-byte c = search needs
 
-wide-requires : tie.Need-wide-requires
-wide-requires c κs = tt
+count-of-byte-requires : tie.Need-count-of-byte-requires
+count-of-byte-requires c κs = tt
 
 read-swaps-requires : tie.Need-read-swaps-requires
-read-swaps-requires c κs = c .wide .ensures .1
+read-swaps-requires c κs = c .count-of-byte .ensures .1
 
 array-share-prefix-swaps : tie.Need-array-share-prefix-swaps
-array-share-prefix-swaps c = omega (arith, c .before .wide .ensures .1, c .read-swaps .ensures)
+array-share-prefix-swaps c = omega (arith, c .before .count-of-byte .ensures .1, c .read-swaps .ensures)
 
 slice-aggregate-chain-lengths : tie.Need-slice-aggregate-chain-lengths
-slice-aggregate-chain-lengths c = sym (length-take-le (c .before .before .wide .result) (c .before .read-swaps .result) (array-share-prefix-swaps (c .before)))
+slice-aggregate-chain-lengths c = sym (length-take-le (c .before .before .count-of-byte .result) (c .before .read-swaps .result) (array-share-prefix-swaps (c .before)))
 
 chain-lengths-requires : tie.Need-chain-lengths-requires
 chain-lengths-requires c κs = tt
@@ -56,8 +56,8 @@ answer-group-spec =
     slice-aggregate-read-full
     read-full-requires
     returns
-    array-read-wide
-    wide-requires
+    array-read-count-of-byte
+    count-of-byte-requires
     read-swaps-requires
     array-share-prefix-swaps
     slice-aggregate-chain-lengths

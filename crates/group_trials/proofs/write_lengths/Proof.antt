@@ -3,6 +3,7 @@
 use Prim.Native.Nat.{_-_}
 use native.Mathlib.Omega.{arith}
 use borrow.Author.Needs.{needs}
+use Rattle.ground.specs.Meanings.Sheet.{most-carriers}
 use Rattle.group_trials.proofs.write_lengths.Statement.{statement}
 use Rattle.group_trials.proofs.write_lengths.Tie as tie
 
@@ -10,7 +11,7 @@ abbrev Inv-loop : tie.InvT-loop
 Inv-loop lengths c₀ c = Unit {0}
 
 abbrev μ-loop : tie.MeasureT-loop
-μ-loop lengths c₀ c = 15 - c
+μ-loop lengths c₀ c = most-carriers - c
 
 loop-holds : tie.Need-loop-holds Inv-loop μ-loop
 loop-holds c = tt

@@ -3,7 +3,7 @@ use Prim.Native.Nat.{_-_}
 use native.Mathlib.Omega.{arith}
 use mathlib.Core.Path.{refl}
 use lib.ListN.{length}
-use Rattle.swaps.specs.Filling.{filled-start, filled-more}
+use Rattle.ground.specs.Laws.Filling.{filled-start, filled-more}
 use Rattle.listing.specs.Filling.{FilledWith, filled-with}
 use Rattle.listing.proofs.fill_bytes.Statement.{statement}
 use Rattle.listing.proofs.fill_bytes.Tie as tie

@@ -6,7 +6,7 @@ use native.Mathlib.Nat.{le-refl}
 use native.Mathlib.Omega.{arith}
 use lib.ListN.{length}
 use Rattle.ground.specs.Meanings.Group.{at}
-use Rattle.swaps.specs.Filling.{Filled, filled-start, filled-more, filled-move}
+use Rattle.ground.specs.Laws.Filling.{Filled, filled-start, filled-more, filled-move}
 use Rattle.swaps.proofs.move_row.Statement.{statement}
 use Rattle.swaps.proofs.move_row.Tie as tie
 

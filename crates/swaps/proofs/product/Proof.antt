@@ -7,7 +7,7 @@ use native.Mathlib.Omega.{arith}
 use borrow.Author.Needs.{needs}
 use lib.ListN.{length, replicate, getD-replicate, List·getD-eq-default}
 use Rattle.ground.specs.Meanings.Group.{at}
-use Rattle.swaps.specs.Filling.{Filled, filled-start, filled-more, filled-kept, filled-mul}
+use Rattle.ground.specs.Laws.Filling.{Filled, filled-start, filled-more, filled-kept, filled-mul}
 use Rattle.swaps.proofs.product.Statement.{statement}
 use Rattle.swaps.proofs.product.Tie as tie
 

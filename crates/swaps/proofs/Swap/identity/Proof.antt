@@ -5,7 +5,7 @@ use Prim.Native.Nat.{ℕ, _-_}
 use native.Mathlib.Omega.{arith}
 use lib.ListN.{replicate}
 use Rattle.ground.specs.Meanings.Group.{identity}
-use Rattle.swaps.specs.Filling.{Filled, filled-start, filled-more, filled-table}
+use Rattle.ground.specs.Laws.Filling.{Filled, filled-start, filled-more, filled-table}
 use Rattle.swaps.proofs.Swap.identity.Statement.{statement}
 use Rattle.swaps.proofs.Swap.identity.Tie as tie
 
