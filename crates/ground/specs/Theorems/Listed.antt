@@ -17,7 +17,6 @@ use Prim.Native.Nat.{ℕ, _≤_, _<_}
 use native.Mathlib.Omega.{arith}
 use lib.ListN.{length}
 use Rattle.ground.specs.Meanings.Exactly.{Counts}
-use Rattle.ground.specs.declared.Fault.{Fault}
 use Rattle.ground.specs.Meanings.Sheet.{accepted, opened-beyond, listed-beyond, noFault, Sheet, Accepted}
 use Rattle.ground.specs.Meanings.Plans.{risers, Plan, OpenedIs, TotalIs}
 use Rattle.ground.specs.Meanings.Listing.{Line, Notion, onSheet, Listing, rowsOf, sizesOf, flat, over, room, Left, left, ListsOn, beyond-allowance, beyond-room, listed, Lists}
