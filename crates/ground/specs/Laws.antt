@@ -17,6 +17,7 @@
 --   Reading, Sections     what readings give, and the sections of a sheet
 --   Spelling, Valid       a sheet has one spelling, and is accepted exactly if it is valid
 --   Sheets                an accepted sheet, fact by fact; its group keeps rows, rules and plans
+--   Tables                a sheet as tables of numbers, and what they say of a carrier
 --   Numbers               a sheet is refused by a number from 1 to 9
 --   Looks                 how far a reading looks
 --   Fullest               the sheet with every list, rule and pair that there can be is valid
@@ -47,6 +48,7 @@ pub mod Sections
 pub mod Spelling
 pub mod Valid
 pub mod Sheets
+pub mod Tables
 pub mod Numbers
 pub mod Looks
 pub mod Fullest

@@ -17,7 +17,7 @@ use Rattle.ground.specs.Laws.Sheets.{Sound, isIn-mem, mem-isIn, isPairIn-mem, m
 use Rattle.sheet.specs.Serves as reader
 use Rattle.sheet.specs.Serves.{bit, risersOf}
 use Rattle.sheet.specs.Callers.{swaps-first, padded-pad}
-use Rattle.rules.specs.Tables.{tables, Flag, rule, Ending, Serves}
+use Rattle.ground.specs.Laws.Tables.{tables, Flag, rule, Ending, Serves}
 
 -- a bit of a test flags what the test says
 flagged : {P : Type 0} (b : Bool) {x : ℕ} → (b ≡ true → P) → (P → b ≡ true) → x ≡ bit b → Flag P x

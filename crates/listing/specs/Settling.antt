@@ -34,7 +34,7 @@ use Rattle.tree.specs.Visits.{State, state}
 use Rattle.tree.specs.Walks.{Every}
 use Rattle.tree.specs.Wholes.{wholes, walk-opened, walk-lists}
 use Rattle.tree.specs.Written.{run-all, run-many}
-use Rattle.rules.specs.Tables.{Tables, tables, Serves}
+use Rattle.ground.specs.Laws.Tables.{Tables, tables, Serves}
 use Rattle.search.specs.Answer.{Ready, Searched, Searches}
 use Rattle.search.specs.Starting.{serves-ready}
 use Rattle.listing.specs.Serving.{serves}

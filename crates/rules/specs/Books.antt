@@ -17,7 +17,7 @@ use Rattle.ground.specs.Meanings.Group.{at}
 use Rattle.ground.specs.Meanings.Sheet.{most-carriers, most-risers}
 use Rattle.ground.specs.Laws.Rows.{Below}
 use Rattle.masks.specs.Masks.{Has}
-use Rattle.rules.specs.Tables.{Tables, Stands}
+use Rattle.ground.specs.Laws.Tables.{Tables, Stands}
 
 pub record Book : Type 0 where
   pub lists : List ℕ

@@ -27,7 +27,7 @@ use Rattle.ground.specs.Meanings.Sheet.{most-carriers, most-risers, most-rules,
 use Rattle.ground.specs.Laws.Lists.{mem-at}
 use Rattle.ground.specs.Laws.Rows.{Below}
 use Rattle.masks.specs.Masks.{Marked}
-use Rattle.rules.specs.Tables.{Tables, Stands}
+use Rattle.ground.specs.Laws.Tables.{Tables, Stands}
 use Rattle.rules.specs.Books.{Book, book, Passes, Shows}
 use Rattle.rules.specs.Narrowing.{passes-kept}
 
@@ -187,7 +187,7 @@ module _ {k : ℕ} {allowed ends : List ℕ} {d e next : ℕ} {others masks othe
 -- ---- the pages
 
 pub record Page (k : ℕ) (T : Tables) (B : Book) (d : ℕ) : Type 0 where
-  pub listed : Marked (T .member) (d * most-carriers) k (at (B .lists) d)
+  pub listed : Marked (T .listed) (d * most-carriers) k (at (B .lists) d)
   pub rules : Rules k (T .allowed) (T .ends) d d (d * most-risers + at (B .counts) d) (B .others) (B .masks)
 
 pub record Pages (k : ℕ) (T : Tables) (d : ℕ) (B : Book) : Type 0 where
@@ -214,7 +214,7 @@ abbrev pub bookWith : Book → ℕ → ℕ → ℕ → List ℕ → List ℕ →
 bookWith B d m j others masks = book (set (B .lists) d m) (set (B .counts) d j) others masks
 
 module _ {k d : ℕ} {T : Tables} {B : Book} (P : Pages k T d B) (wide : k ≤ most-carriers) (high : d < most-risers) {m : ℕ} (j : ℕ) {others masks : List ℕ}
-    (h : Marked (T .member) (d * most-carriers) k m) (W : Written k (T .allowed) (T .ends) d d (d * most-risers + j) (B .others) (B .masks) others masks) where
+    (h : Marked (T .listed) (d * most-carriers) k m) (W : Written k (T .allowed) (T .ends) d d (d * most-risers + j) (B .others) (B .masks) others masks) where
   pub pages-more : Pages k T (d + 1) (bookWith B d m j others masks)
   pages-more = record {
     lists-length = length-set (B .lists) d m ∙ P .lists-length;

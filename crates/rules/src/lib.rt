@@ -2,14 +2,14 @@
 //
 // For each riser stand a mask of its list, and the rules that end there, one after another: for each the other riser, and for each
 // carrier of that riser the mask of the carriers that go with it. `write_book` writes all this, and `standing` reads it: the carriers
-// that may follow a row. What the two promise is in specs/Books.antt, what the sheet's tables are in specs/Tables.antt.
+// that may follow a row. What the two promise is in specs/Books.antt, what the tables are in Laws/Tables.antt of ground.
 ghost use mathlib.Core.Path.{_≡_};
 ghost use Prim.Native.Nat.{_+_, _*_, _≤_, _<_};
 ghost use lib.ListN.{length, take};
 ghost use Rattle.ground.specs.Meanings.Group.{at};
 ghost use Rattle.ground.specs.Meanings.Sheet.{most-carriers, most-risers, most-rules};
 ghost use Rattle.ground.specs.Laws.Rows.{Below};
-ghost use Rattle.rules.specs.Tables.{tables, Few};
+ghost use Rattle.ground.specs.Laws.Tables.{tables, Few};
 ghost use Rattle.rules.specs.Books.{book, Orderly, Shows, Standing};
 ghost use Rattle.rules.specs.Narrowing.{Askable};
 ghost use Rattle.rules.specs.Writing.{most-ends, most-masks, FewAt, Masked, Written};

@@ -3,7 +3,7 @@
 -- Assumes nothing.
 use Prim.Native.Nat.{_≤_, _<_, _+_, _*_, _-_}
 use native.Mathlib.Omega.{arith}
-use Rattle.rules.specs.Tables.{tables}
+use Rattle.ground.specs.Laws.Tables.{tables}
 use Rattle.rules.specs.Books.{book}
 use Rattle.rules.specs.Writing.{Pages, pages-start, pages-more, pages-show}
 use Rattle.rules.proofs.write_book.Statement.{statement}

@@ -16,20 +16,20 @@ use mathlib.Core.Logic.{_⊎_}
 use mathlib.Core.List.{List, map}
 use Prim.Native.Nat.{ℕ, _+_, _*_, _-_, _≤_, _<_}
 use lib.ListN.{length, getD, take}
 use Rattle.ground.specs.Meanings.Exactly.{_∈_}
 use Rattle.ground.specs.Meanings.Group.{at}
 use Rattle.ground.specs.Meanings.Sheet.{Sheet, Rule, noRule, most-carriers, most-risers, most-rules, most-pairs}
 use Rattle.ground.specs.Meanings.Plans.{risers, list, Allows}
 use Rattle.ground.specs.Laws.Padding.{pad}
 use Rattle.ground.specs.Laws.Sheets.{Sound}
 
 pub record Tables : Type 0 where
-  pub member : List ℕ
+  pub listed : List ℕ
   pub allowed : List ℕ
   pub ends : List ℕ
 
 abbrev pub tables : List ℕ → List ℕ → List ℕ → Tables
-tables m a e = record { member = m; allowed = a; ends = e }
+tables l a e = record { listed = l; allowed = a; ends = e }
 
 -- ---- what the tables say of a sheet
 
@@ -55,7 +55,7 @@ pub record Serves (X : Sheet) (k n m : ℕ) (T : Tables) (swaps : List (List ℕ
   pub sound : Sound X
   pub carriers : X .carriers ≡ k
   pub risers : risers X ≡ n
-  pub listed : (r c : ℕ) → r < n → c < k → Flag (c ∈ list X r) (at (T .member) (r * most-carriers + c))
+  pub listed : (r c : ℕ) → r < n → c < k → Flag (c ∈ list X r) (at (T .listed) (r * most-carriers + c))
   pub ends : (a b : ℕ) → a < b → b < n → Ending X a b (at (T .ends) (b * most-risers + a))
   pub allows : (q u v : ℕ) → q < length (X .rules) → u < k → v < k → Flag (Allows (rule X q) u v) (at (T .allowed) (q * most-pairs + u * most-carriers + v))
   pub counted : length (X .swaps) ≡ m
@@ -68,6 +68,6 @@ abbrev pub Few : ℕ → List ℕ → Type 0
 Few n ends = (a b : ℕ) → a < b → b < n → at ends (b * most-risers + a) ≤ most-rules
 
 pub record Stands (T : Tables) (p : List ℕ) (c : ℕ) : Type 0 where
-  pub listed : ¬ (at (T .member) (length p * most-carriers + c) ≡ 0)
+  pub listed : ¬ (at (T .listed) (length p * most-carriers + c) ≡ 0)
   pub keeps : (e : ℕ) → e < length p → ¬ (at (T .ends) (length p * most-risers + e) ≡ 0)
       → ¬ (at (T .allowed) ((at (T .ends) (length p * most-risers + e) - 1) * most-pairs + at p e * most-carriers + c) ≡ 0)
