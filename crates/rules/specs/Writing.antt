@@ -1,253 +1,268 @@
--- Writing the book: into lanes that leave every carrier first, the lists and the rules are written riser by riser.
+-- Writing the book: its rules are put down one after another, riser by riser, and what is before the place of the next one stays.
 --
---   lane v r c e               what carrier c of riser r leaves to riser e, in the lines v
---   list_lane v e               riser e's list, in the lines v
---   all_carriers               the mask with every carrier
---   Binds ends r e             a rule binds the risers r and e
---   FewAt d ends               no number that the table of ends has for riser d is above that of the last rule
---   Sized v                    v has all its lines, and each line all its lanes
---   put v r c e m              the lines with m as that lane; the lists stand where the lines of a riser more would begin
---   Ruled k allowed q a b u old new
---                              rule q, of the risers a and b, is written for the first u carriers of a, and no lane from another riser
---                              or to another one is changed; `old` and `new` are the lines before and after
---   Leaves k allowed ends r e u m   m has what carrier u of riser r leaves to riser e, by the rule that binds the two
---   Written k allowed ends d e old new
---                              the rules that end at riser d and start before e are written, and no other lane is changed
---   Lines k T d v              the lines v have the lists of the risers before d and the rules that end at one of these, as the tables
---                              T have them; every other lane to a later riser leaves every carrier
---   blank                      every lane leaves every carrier
+--   most_ends, most_masks           how many places the book has for rules, and how many for their masks
+--   FewAt d ends                    no number that the table of ends has for riser d is above that of the last rule
+--   Alike n l m                     the lists l and m are equally long, and the same up to place n
+--   Masked k allowed q r u old new  the masks of rule q are written at place r, for the first u carriers of its other riser; `old` and
+--                                   `new` are all masks before and after
+--   Rule k allowed ends d e .. r    what stands at place r of the book is a rule that binds d and a riser before e, with its masks
+--   Rules k allowed ends d e next ..   all these rules, and no others, stand from d · 12 on and before the place `next`
+--   Written ..                      the same, and what was written for the risers before d is still there
+--   Page k T B d                    the book B has the list and the rules that the tables T have for riser d
+--   Pages k T d B                   it has those of each riser before d
+--   blank, book_with B d m j ..      nothing is written; the book with riser d's list m and its j rules
 --
--- A turn of each loop is a law: `ruled_more`; `written_none` and `written_more`; `lines_more`. Lines with the lists and
--- the rules of all risers say what the tables say (`lines_show`).
+-- A turn of each loop is a law: `masked_more`; `written_none` and `written_more`; `pages_more`. A book that has the pages of all
+-- risers says what the tables say (`pages_show`).
 -- Assumes nothing.
-use Rattle.std.specs.Prelude.{◌≡◌, refl, List, [], ℕ, zero, suc, ◌+◌, ◌*◌, ◌-◌, ◌/◌, ◌^◌, ◌≤◌, ◌<◌, length, set, replicate}
-use Rattle.std.proofs.Common.{sym, ap, ◌∙◌, pow-suc, arith, length-set, pow_pos, get_or-set_same, get_or-set_other}
+use Rattle.std.specs.Prelude.{◌≡◌, refl, List, ℕ, ◌+◌, ◌*◌, ◌-◌, ◌≤◌, ◌<◌, length, set, replicate}
+use Rattle.std.proofs.Common.{sym, ◌∙◌, arith, length-set, get_or-set_same, get_or-set_other}
 use Rattle.std.proofs.Math.Decide.{ℕ_discrete}
-use Rattle.std.proofs.lemmas.List.{length-replicate, get_or-replicate}
+use Rattle.std.proofs.lemmas.List.{length-replicate}
 use Rattle.ground.specs.Meanings.Group.{at}
 use Rattle.ground.specs.Meanings.Sheet.{most_carriers, most_risers, most_rules, most_pairs}
 use Rattle.ground.specs.Laws.Lists.{mem_at}
 use Rattle.ground.specs.Laws.Rows.{Below}
+use Rattle.masks.specs.Masks.{Marked}
 use Rattle.ground.specs.Laws.Tables.{Tables, Stands}
-use Rattle.masks.specs.Masks.{Has, has_low, has_high, Marked}
-use Rattle.rules.specs.Books.{most_lanes, book_lines, most_lines, line_at, book_of, left_by, Passes, Shows}
-use Rattle.rules.specs.Narrowing.{left_in_book}
+use Rattle.rules.specs.Books.{Book, book, Passes, Shows}
+use Rattle.rules.specs.Narrowing.{passes_kept}
 
-abbrev pub lane : List (List ℕ) → ℕ → ℕ → ℕ → ℕ
-lane v r c e = at (line_at v (r * most_carriers + c)) e
+abbrev pub most_ends : ℕ
+most_ends = most_risers * most_risers
 
-abbrev pub list_lane : List (List ℕ) → ℕ → ℕ
-list_lane v e = at (line_at v book_lines) e
-
-abbrev pub all_carriers : ℕ
-all_carriers = 65535
-
-abbrev pub Binds : List ℕ → ℕ → ℕ → Type 0
-Binds ends r e = ¬ (at ends (e * most_risers + r) ≡ 0)
+abbrev pub most_masks : ℕ
+most_masks = most_ends * most_carriers
 
 abbrev pub FewAt : ℕ → List ℕ → Type 0
 FewAt d ends = (e : ℕ) → e < d → at ends (d * most_risers + e) ≤ most_rules
 
--- ---- a lane is put down
+-- ---- what is before a place stays
 
-pub record Sized (v : List (List ℕ)) : Type 0 where
-  pub lines : length v ≡ most_lines
-  pub lanes : (i : ℕ) → i < most_lines → length (line_at v i) ≡ most_lanes
+pub record Alike (n : ℕ) (l m : List ℕ) : Type 0 where
+  pub long : length m ≡ length l
+  pub same : (i : ℕ) → i < n → at m i ≡ at l i
 
-abbrev pub put : List (List ℕ) → ℕ → ℕ → ℕ → ℕ → List (List ℕ)
-put v r c e m = set v (r * most_carriers + c) (set (line_at v (r * most_carriers + c)) e m)
+pub alike_self : (n : ℕ) (l : List ℕ) → Alike n l l
+alike_self n l = record { long = refl; same = λ i b. refl }
 
-module _ {v : List (List ℕ)} (S : Sized v) (r c e m : ℕ) (place : r * most_carriers + c < most_lines) where
-  line_put : line_at (put v r c e m) (r * most_carriers + c) ≡ set (line_at v (r * most_carriers + c)) e m
-  line_put = get_or-set_same v (r * most_carriers + c) (set (line_at v (r * most_carriers + c)) e m) [] (omega (arith, S.lines))
+pub alike_set : {n : ℕ} {l m : List ℕ} (i v : ℕ) → n ≤ i → Alike n l m → Alike n l (set m i v)
+alike_set {m = m} i v le s = record {
+  long = length-set m i v ∙ s.long;
+  same = λ j b. get_or-set_other m i j v 0 (λ e. omega arith) ∙ s.same j b;
+}
 
-  line_other : (i : ℕ) → ¬ (i ≡ r * most_carriers + c) → line_at (put v r c e m) i ≡ line_at v i
-  line_other i f = get_or-set_other v (r * most_carriers + c) i (set (line_at v (r * most_carriers + c)) e m) [] f
+pub alike_then : {n o : ℕ} {l m r : List ℕ} → Alike n l m → n ≤ o → Alike o m r → Alike n l r
+alike_then a le b = record { long = b.long ∙ a.long; same = λ i lt. b.same i (omega arith) ∙ a.same i lt }
 
-  pub put_sized : Sized (put v r c e m)
-  put_sized = record {
-    lines = length-set v (r * most_carriers + c) (set (line_at v (r * most_carriers + c)) e m) ∙ S.lines;
-    lanes = λ i l. lanes i l (ℕ_discrete i (r * most_carriers + c));
+-- ---- the masks of one rule
+
+pub record Masked (k : ℕ) (allowed : List ℕ) (q rule u : ℕ) (old new : List ℕ) : Type 0 where
+  pub kept : Alike (rule * most_carriers) old new
+  pub marked : (v : ℕ) → v < u → Marked allowed (q * most_pairs + v * most_carriers) k (at new (rule * most_carriers + v))
+
+pub masked_start : {k q rule : ℕ} {allowed old : List ℕ} → Masked k allowed q rule 0 old old
+masked_start {old = old} = record { kept = alike_self _ old; marked = λ v b. absurd (omega arith) }
+
+module _ {k q rule u : ℕ} {allowed old new : List ℕ} (M : Masked k allowed q rule u old new) where
+  pub masked_more : {m : ℕ} → rule * most_carriers + u < length new → Marked allowed (q * most_pairs + u * most_carriers) k m
+      → Masked k allowed q rule (u + 1) old (set new (rule * most_carriers + u) m)
+  masked_more {m} lt h = record {
+    kept = alike_set (rule * most_carriers + u) m (omega arith) M.kept;
+    marked = λ v b. marked v b (ℕ_discrete v u);
   }
     where
-      lanes : (i : ℕ) → i < most_lines → Dec (i ≡ r * most_carriers + c) → length (line_at (put v r c e m) i) ≡ most_lanes
-      lanes i l (yes q) = rw q (ap length line_put ∙ length-set (line_at v (r * most_carriers + c)) e m ∙ S.lanes (r * most_carriers + c) place)
-      lanes i l (no f) = ap length (line_other i f) ∙ S.lanes i l
+      marked : (v : ℕ) → v < u + 1 → Dec (v ≡ u) → Marked allowed (q * most_pairs + v * most_carriers) k (at (set new (rule * most_carriers + u) m) (rule * most_carriers + v))
+      marked v b (yes e) = rw (e, get_or-set_same new (rule * most_carriers + u) m 0 lt) h
+      marked v b (no f) = rw (get_or-set_other new (rule * most_carriers + u) (rule * most_carriers + v) m 0 (λ e. f (omega arith))) (M.marked v (omega arith))
 
-  pub put_same : e < most_lanes → lane (put v r c e m) r c e ≡ m
-  put_same l = ap (λ (x : List ℕ). at x e) line_put ∙ get_or-set_same (line_at v (r * most_carriers + c)) e m 0 (omega (arith, S.lanes (r * most_carriers + c) place))
+  pub masked_end : {n : ℕ} → u ≡ n → Masked k allowed q rule n old new
+  masked_end e = rw e at M
 
-  pub put_other : c < most_carriers → (s f u : ℕ) → u < most_carriers → ¬ ((s ≡ r) × (f ≡ e) × (u ≡ c)) → lane (put v r c e m) s u f ≡ lane v s u f
-  put_other low s f u l apart = go (ℕ_discrete (s * most_carriers + u) (r * most_carriers + c))
-    where
-      go : Dec (s * most_carriers + u ≡ r * most_carriers + c) → lane (put v r c e m) s u f ≡ lane v s u f
-      go (yes q) = rw q (ap (λ (x : List ℕ). at x f) line_put ∙ get_or-set_other (line_at v (r * most_carriers + c)) e f m 0 (λ z. apart (omega arith, z, omega arith)))
-      go (no n) = ap (λ (x : List ℕ). at x f) (line_other (s * most_carriers + u) n)
+-- ---- the rules of one riser
 
--- ---- one rule
+pub record Rule (k : ℕ) (allowed ends : List ℕ) (d e : ℕ) (others masks : List ℕ) (r : ℕ) : Type 0 where
+  pub starts : at others r < e
+  pub some : ¬ (at ends (d * most_risers + at others r) ≡ 0)
+  pub marked : (u : ℕ) → u < k → Marked allowed ((at ends (d * most_risers + at others r) - 1) * most_pairs + u * most_carriers) k (at masks (r * most_carriers + u))
 
-pub record Ruled (k : ℕ) (allowed : List ℕ) (q a b u : ℕ) (old new : List (List ℕ)) : Type 0 where
-  pub sized : Sized new
-  pub marked : (c : ℕ) → c < u → Marked allowed (q * most_pairs + c * most_carriers) k (lane new a c b)
-  pub kept : (r e c : ℕ) → c < most_carriers → ¬ ((r ≡ a) × (e ≡ b)) → lane new r c e ≡ lane old r c e
+pub record Rules (k : ℕ) (allowed ends : List ℕ) (d e next : ℕ) (others masks : List ℕ) : Type 0 where
+  pub from : d * most_risers ≤ next
+  pub few : next ≤ d * most_risers + e
+  pub rule : (r : ℕ) → d * most_risers ≤ r → r < next → Rule k allowed ends d e others masks r
+  pub all : (a : ℕ) → a < e → ¬ (at ends (d * most_risers + a) ≡ 0) → (r : ℕ) × (d * most_risers ≤ r) × (r < next) × (at others r ≡ a)
 
-pub ruled_start : {k q a b : ℕ} {allowed : List ℕ} {old : List (List ℕ)} → Sized old → Ruled k allowed q a b 0 old old
-ruled_start S = record { sized = S; marked = λ c l. absurd (omega arith); kept = λ r e c l f. refl }
+pub record Written (k : ℕ) (allowed ends : List ℕ) (d e next : ℕ) (others masks others' masks' : List ℕ) : Type 0 where
+  pub rules : Rules k allowed ends d e next others' masks'
+  pub others_kept : Alike (d * most_risers) others others'
+  pub masks_kept : Alike (d * most_risers * most_carriers) masks masks'
 
-module _ {k q a b u : ℕ} {allowed : List ℕ} {old new : List (List ℕ)} (R : Ruled k allowed q a b u old new) where
-  -- one carrier more of riser a
-  pub ruled_more : {m : ℕ} → a < most_risers → b < most_risers → u < most_carriers → Marked allowed (q * most_pairs + u * most_carriers) k m
-      → Ruled k allowed q a b (u + 1) old (put new a u b m)
-  ruled_more {m} la lb lu h = record {
-    sized = put_sized R.sized a u b m place;
-    marked = λ c l. marked c l (ℕ_discrete c u);
-    kept = λ r e c l f. put_other R.sized a u b m place lu r e c l (λ w. f (w.0, w.1)) ∙ R.kept r e c l f;
+-- what is written below a place stays where the lists are the same up to it
+rule_kept : {k : ℕ} {allowed ends : List ℕ} {d e r n : ℕ} {others masks others' masks' : List ℕ} → k ≤ most_carriers → r < n
+    → Alike n others others' → Alike (n * most_carriers) masks masks' → Rule k allowed ends d e others masks r → Rule k allowed ends d e others' masks' r
+rule_kept {k} {allowed} {ends} {d} {e} {r} wide lt o m h = record {
+  starts = rw (o.same r lt) h.starts;
+  some = rw (o.same r lt) h.some;
+  marked = λ u b. rw (o.same r lt, m.same (r * most_carriers + u) (omega arith)) (h.marked u b);
+}
+
+rule_later : {k : ℕ} {allowed ends : List ℕ} {d e r : ℕ} {others masks : List ℕ} → Rule k allowed ends d e others masks r → Rule k allowed ends d (e + 1) others masks r
+rule_later h = record { starts = omega (arith, h.starts); some = h.some; marked = h.marked }
+
+module _ {k : ℕ} {allowed ends : List ℕ} {d e next : ℕ} {others masks : List ℕ} (R : Rules k allowed ends d e next others masks) where
+  pub rules_kept : {n : ℕ} {others' masks' : List ℕ} → k ≤ most_carriers → next ≤ n → Alike n others others' → Alike (n * most_carriers) masks masks'
+      → Rules k allowed ends d e next others' masks'
+  rules_kept wide le o m = record {
+    from = R.from;
+    few = R.few;
+    rule = λ r f t. rule_kept wide (omega arith) o m (R.rule r f t);
+    all = λ a lt g. let w = R.all a lt g in (w.0, w.1, w.2, o.same w.0 (omega (arith, w.2)) ∙ w.3);
   }
-    where
-      place : a * most_carriers + u < most_lines
-      place = omega arith
 
-      marked : (c : ℕ) → c < u + 1 → Dec (c ≡ u) → Marked allowed (q * most_pairs + c * most_carriers) k (lane (put new a u b m) a c b)
-      marked c l (yes e) = rw (e, put_same R.sized a u b m place (omega arith)) h
-      marked c l (no f) = rw (put_other R.sized a u b m place lu a b c (omega arith) (λ w. f w.2)) (R.marked c (omega arith))
-
-  pub ruled_end : {n : ℕ} → u ≡ n → Ruled k allowed q a b n old new
-  ruled_end e = rw e at R
-
--- ---- the rules that end at one riser
-
-abbrev pub Leaves : ℕ → List ℕ → List ℕ → ℕ → ℕ → ℕ → ℕ → Type 0
-Leaves k allowed ends r e u m = Marked allowed ((at ends (e * most_risers + r) - 1) * most_pairs + u * most_carriers) k m
-
-pub record Written (k : ℕ) (allowed ends : List ℕ) (d e : ℕ) (old new : List (List ℕ)) : Type 0 where
-  pub sized : Sized new
-  pub marked : (r u : ℕ) → r < e → u < k → Binds ends r d → Leaves k allowed ends r d u (lane new r u d)
-  pub kept : (r f c : ℕ) → c < most_carriers → ¬ ((r < e) × (f ≡ d) × Binds ends r d) → lane new r c f ≡ lane old r c f
-
-pub written_start : {k d : ℕ} {allowed ends : List ℕ} {old : List (List ℕ)} → Sized old → Written k allowed ends d 0 old old
-written_start S = record { sized = S; marked = λ r u l. absurd (omega arith); kept = λ r f c l g. refl }
-
-module _ {k d e : ℕ} {allowed ends : List ℕ} {old new : List (List ℕ)} (W : Written k allowed ends d e old new) where
   -- no rule starts at e
-  pub written_none : {number : ℕ} → number ≡ at ends (d * most_risers + e) → number ≡ 0 → Written k allowed ends d (e + 1) old new
-  written_none read z = record {
-    sized = W.sized;
-    marked = λ r u l b g. elim (ℕ_discrete r e) [ yes q ↦ absurd (g (rw q (sym read ∙ z))) | no f ↦ W.marked r u (omega arith) b g ];
-    kept = λ r f c l g. W.kept r f c l (λ w. g (omega (arith, w.0), w.1, w.2));
+  pub rules_none : at ends (d * most_risers + e) ≡ 0 → Rules k allowed ends d (e + 1) next others masks
+  rules_none z = record {
+    from = R.from;
+    few = omega (arith, R.few);
+    rule = λ r f t. rule_later (R.rule r f t);
+    all = λ a lt g. all a lt g (ℕ_discrete a e);
   }
+    where
+      all : (a : ℕ) → a < e + 1 → ¬ (at ends (d * most_risers + a) ≡ 0) → Dec (a ≡ e) → (r : ℕ) × (d * most_risers ≤ r) × (r < next) × (at others r ≡ a)
+      all a lt g (yes q) = absurd (g (rw q z))
+      all a lt g (no q) = R.all a (omega arith) g
 
   -- the rule that starts at e is written
-  pub written_more : {number : ℕ} {newer : List (List ℕ)} → k ≤ most_carriers → number ≡ at ends (d * most_risers + e) → ¬ (number ≡ 0)
-      → Ruled k allowed (number - 1) e d k new newer → Written k allowed ends d (e + 1) old newer
-  written_more {number} {newer} wide read some R = record {
-    sized = R.sized;
-    marked = λ r u l b g. marked r u l b g (ℕ_discrete r e);
-    kept = λ r f c l g.
-        R.kept r f c l (λ w. g (omega (arith, w.0), w.1, rw (w.0, ← read) some))
-        ∙ W.kept r f c l (λ w. g (omega (arith, w.0), w.1, w.2));
+  pub rules_more : Rule k allowed ends d (e + 1) others masks next → at others next ≡ e → Rules k allowed ends d (e + 1) (next + 1) others masks
+  rules_more h s = record {
+    from = omega (arith, R.from);
+    few = omega (arith, R.few);
+    rule = λ r f t. rule r f t (ℕ_discrete r next);
+    all = λ a lt g. all a lt g (ℕ_discrete a e);
   }
     where
-      marked : (r u : ℕ) → r < e + 1 → u < k → Binds ends r d → Dec (r ≡ e) → Leaves k allowed ends r d u (lane newer r u d)
-      marked r u l b g (yes q) = rw (q, ← read) (R.marked u b)
-      marked r u l b g (no f) = rw (R.kept r d u (omega arith) (λ w. f w.0)) (W.marked r u (omega arith) b g)
+      rule : (r : ℕ) → d * most_risers ≤ r → r < next + 1 → Dec (r ≡ next) → Rule k allowed ends d (e + 1) others masks r
+      rule r f t (yes q) = rw q h
+      rule r f t (no q) = rule_later (R.rule r f (omega arith))
 
-  pub written_end : {n : ℕ} → e ≡ n → Written k allowed ends d n old new
-  written_end q = rw q at W
+      all : (a : ℕ) → a < e + 1 → ¬ (at ends (d * most_risers + a) ≡ 0) → Dec (a ≡ e) → (r : ℕ) × (d * most_risers ≤ r) × (r < next + 1) × (at others r ≡ a)
+      all a lt g (yes q) = (next, R.from, omega arith, s ∙ sym q)
+      all a lt g (no q) = let w = R.all a (omega arith) g in (w.0, w.1, omega (arith, w.2), w.3)
 
--- ---- all risers
-
-pub record Lines (k : ℕ) (T : Tables) (d : ℕ) (v : List (List ℕ)) : Type 0 where
-  pub sized : Sized v
-  pub listed : (e : ℕ) → e < d → Marked T.listed (e * most_carriers) k (list_lane v e)
-  pub ruled : (r e u : ℕ) → r < e → e < d → u < k → Binds T.ends r e → Leaves k T.allowed T.ends r e u (lane v r u e)
-  pub free : (r e u : ℕ) → r < e → e < most_risers → u < most_carriers → ¬ ((e < d) × Binds T.ends r e) → lane v r u e ≡ all_carriers
-
-abbrev pub blank : List (List ℕ)
-blank = replicate most_lines (replicate most_lanes all_carriers)
-
-pub lines_start : {k : ℕ} {T : Tables} → Lines k T 0 blank
-lines_start = record {
-  sized = record {
-    lines = length-replicate most_lines (replicate most_lanes all_carriers);
-    lanes = λ i l. ap length (line i l) ∙ length-replicate {A = ℕ} most_lanes all_carriers;
-  };
-  listed = λ e l. absurd (omega arith);
-  ruled = λ r e u l h. absurd (omega arith);
-  free = λ r e u l h b f. ap (λ (x : List ℕ). at x e) (line (r * most_carriers + u) (omega arith)) ∙ get_or-replicate {A = ℕ} most_lanes e all_carriers 0 (omega arith);
+pub written_start : {k : ℕ} {allowed ends : List ℕ} {d : ℕ} {others masks : List ℕ} → Written k allowed ends d 0 (d * most_risers) others masks others masks
+written_start {others = others} {masks = masks} = record {
+  rules = record { from = omega arith; few = omega arith; rule = λ r f t. absurd (omega arith); all = λ a lt. absurd (omega arith) };
+  others_kept = alike_self _ others;
+  masks_kept = alike_self _ masks;
 }
-  where
-    line : (i : ℕ) → i < most_lines → line_at blank i ≡ replicate most_lanes all_carriers
-    line i l = get_or-replicate most_lines i (replicate most_lanes all_carriers) [] l
 
--- one riser more: m is its list
-module _ {k d : ℕ} {T : Tables} {v new : List (List ℕ)} (L : Lines k T d v) (wide : k ≤ most_carriers) (high : d < most_risers) {m : ℕ}
-    (h : Marked T.listed (d * most_carriers) k m) (W : Written k T.allowed T.ends d d (put v most_risers 0 d m) new) where
-  -- the lists, and the lanes to other risers, stay while the rules are written
-  list_kept : (e : ℕ) → list_lane new e ≡ list_lane (put v most_risers 0 d m) e
-  list_kept e = W.kept most_risers e 0 (omega arith) (λ w. omega (arith, w.0))
+module _ {k : ℕ} {allowed ends : List ℕ} {d e next : ℕ} {others masks others' masks' : List ℕ} (W : Written k allowed ends d e next others masks others' masks') where
+  pub written_none : {number : ℕ} → number ≡ at ends (d * most_risers + e) → number ≡ 0 → Written k allowed ends d (e + 1) next others masks others' masks'
+  written_none read z = record { rules = rules_none W.rules (sym read ∙ z); others_kept = W.others_kept; masks_kept = W.masks_kept }
 
-  lane_kept : (r e u : ℕ) → r < e → e < most_risers → u < most_carriers → ¬ ((e ≡ d) × Binds T.ends r d) → lane new r u e ≡ lane v r u e
-  lane_kept r e u l b c f = W.kept r e u c (λ w. f (w.1, w.2))
-      ∙ put_other L.sized most_risers 0 d m (omega arith) (omega arith) r e u c (λ w. omega (arith, w.0))
-
-  pub lines_more : Lines k T (d + 1) new
-  lines_more = record {
-    sized = W.sized;
-    listed = λ e l. listed e l (ℕ_discrete e d);
-    ruled = λ r e u l b c g. ruled r e u l b c g (ℕ_discrete e d);
-    free = λ r e u l b c f. free r e u l b c f (ℕ_discrete e d);
+  pub written_more : {number : ℕ} {new : List ℕ} → k ≤ most_carriers → next < length others' → number ≡ at ends (d * most_risers + e) → ¬ (number ≡ 0)
+      → Masked k allowed (number - 1) next k masks' new → Written k allowed ends d (e + 1) (next + 1) others masks (set others' next e) new
+  written_more {number} {new} wide lt read some M = record {
+    rules = rules_more (rules_kept W.rules wide (omega arith) (alike_set next e (omega arith) (alike_self next others')) M.kept) rule there;
+    others_kept = alike_set next e W.rules.from W.others_kept;
+    masks_kept = alike_then W.masks_kept (omega (arith, W.rules.from)) M.kept;
   }
     where
-      listed : (e : ℕ) → e < d + 1 → Dec (e ≡ d) → Marked T.listed (e * most_carriers) k (list_lane new e)
-      listed e l (yes q) = rw (list_kept e, q, put_same L.sized most_risers 0 d m (omega arith) (omega arith)) h
-      listed e l (no f) = rw (list_kept e, put_other L.sized most_risers 0 d m (omega arith) (omega arith) most_risers e 0 (omega arith) (λ w. f w.1)) (L.listed e (omega arith))
+      there : at (set others' next e) next ≡ e
+      there = get_or-set_same others' next e 0 lt
 
-      ruled : (r e u : ℕ) → r < e → e < d + 1 → u < k → Binds T.ends r e → Dec (e ≡ d) → Leaves k T.allowed T.ends r e u (lane new r u e)
-      ruled r e u l b c g (yes q) = rw q (W.marked r u (omega arith) c (rw q at g))
-      ruled r e u l b c g (no f) = rw (lane_kept r e u l (omega arith) (omega arith) (λ w. f w.0)) (L.ruled r e u l (omega arith) c g)
+      rule : Rule k allowed ends d (e + 1) (set others' next e) new next
+      rule = record {
+        starts = omega (arith, there);
+        some = rw (there, ← read) some;
+        marked = rw (there, ← read) M.marked;
+      }
 
-      free : (r e u : ℕ) → r < e → e < most_risers → u < most_carriers → ¬ ((e < d + 1) × Binds T.ends r e) → Dec (e ≡ d) → lane new r u e ≡ all_carriers
-      free r e u l b c f (yes q) = lane_kept r e u l b c (λ w. f (omega arith, rw q w.1)) ∙ L.free r e u l b c (λ w. omega (arith, w.0))
-      free r e u l b c f (no n) = lane_kept r e u l b c (λ w. n w.0) ∙ L.free r e u l b c (λ w. f (omega (arith, w.0), w.1))
+  pub written_end : {n : ℕ} (r : ℕ) → e ≡ n → d * most_risers + r ≡ next → Written k allowed ends d n (d * most_risers + r) others masks others' masks'
+  written_end r f g = rw g (rw f at W)
 
--- ---- the lines say what the tables say
+-- ---- the pages
 
--- the mask of w ones has all carriers below w
-has_ones : (w c : ℕ) → c < w → Has (2 ^ w - 1) c
-has_ones zero c l = absurd (omega arith)
-has_ones (suc w) zero l = (has_low (2 ^ suc w - 1)).1 (omega (arith, pow-suc 2 w, pow_pos w))
-has_ones (suc w) (suc c) l =
-    let half : (2 ^ suc w - 1) / 2 ≡ 2 ^ w - 1 = omega (arith, pow-suc 2 w, pow_pos w) in
-    (has_high (2 ^ suc w - 1) c).1 (rw half (has_ones w c (omega arith)))
+pub record Page (k : ℕ) (T : Tables) (B : Book) (d : ℕ) : Type 0 where
+  pub listed : Marked T.listed (d * most_carriers) k (at B.lists d)
+  pub rules : Rules k T.allowed T.ends d d (d * most_risers + at B.counts d) B.others B.masks
 
-module _ {k n d : ℕ} {T : Tables} {v : List (List ℕ)} (wide : k ≤ most_carriers) (high : n ≤ most_risers) (le : n ≤ d) (L : Lines k T d v)
-    (p : List ℕ) (c : ℕ) (short : length p < n) (b : Below k p) (low : c < k) where
-  placed : (i : ℕ) → i < length p → at p i < k
-  placed i l = b (at p i) (mem_at p i l)
+pub record Pages (k : ℕ) (T : Tables) (d : ℕ) (B : Book) : Type 0 where
+  pub lists_length : length B.lists ≡ most_risers
+  pub counts_length : length B.counts ≡ most_risers
+  pub others_length : length B.others ≡ most_ends
+  pub masks_length : length B.masks ≡ most_masks
+  pub page : (a : ℕ) → a < d → Page k T B a
 
-  -- what a carrier of the row leaves to the next riser stands in its lane
-  left_lane : (i : ℕ) → i < length p → left_by (book_of v) p i (length p) ≡ lane v i (at p i) (length p)
-  left_lane i l = left_in_book v p i (length p) (omega (arith, placed i l))
+abbrev pub blank : Book
+blank = book (replicate most_risers 0) (replicate most_risers 0) (replicate most_ends 0) (replicate most_masks 0)
 
-  lines_passes : Stands T p c → Passes (book_of v) p c
-  lines_passes s = record {
-    listed = (L.listed (length p) (omega arith)).all c low s.listed;
-    keeps = λ i l. rw (left_lane i l) (keeps i l (ℕ_discrete (at T.ends (length p * most_risers + i)) 0));
+pub pages_start : {k : ℕ} {T : Tables} → Pages k T 0 blank
+pages_start = record {
+  lists_length = length-replicate {A = ℕ} most_risers 0;
+  counts_length = length-replicate {A = ℕ} most_risers 0;
+  others_length = length-replicate {A = ℕ} most_ends 0;
+  masks_length = length-replicate {A = ℕ} most_masks 0;
+  page = λ a lt. absurd (omega arith);
+}
+
+-- the book with a riser more: m is its list, and j how many rules end there
+abbrev pub book_with : Book → ℕ → ℕ → ℕ → List ℕ → List ℕ → Book
+book_with B d m j others masks = book (set B.lists d m) (set B.counts d j) others masks
+
+module _ {k d : ℕ} {T : Tables} {B : Book} (P : Pages k T d B) (wide : k ≤ most_carriers) (high : d < most_risers) {m : ℕ} (j : ℕ) {others masks : List ℕ}
+    (h : Marked T.listed (d * most_carriers) k m) (W : Written k T.allowed T.ends d d (d * most_risers + j) B.others B.masks others masks) where
+  pub pages_more : Pages k T (d + 1) (book_with B d m j others masks)
+  pages_more = record {
+    lists_length = length-set B.lists d m ∙ P.lists_length;
+    counts_length = length-set B.counts d j ∙ P.counts_length;
+    others_length = W.others_kept.long ∙ P.others_length;
+    masks_length = W.masks_kept.long ∙ P.masks_length;
+    page = λ a lt. page a lt (ℕ_discrete a d);
   }
     where
-      keeps : (i : ℕ) → i < length p → Dec (at T.ends (length p * most_risers + i) ≡ 0) → Has (lane v i (at p i) (length p)) c
-      keeps i l (yes z) = rw (L.free i (length p) (at p i) l (omega arith) (omega (arith, placed i l)) (λ w. w.1 z)) (has_ones most_lanes c (omega arith))
-      keeps i l (no f) = (L.ruled i (length p) (at p i) l (omega arith) (placed i l) f).all c low (s.keeps i l f)
+      page : (a : ℕ) → a < d + 1 → Dec (a ≡ d) → Page k T (book_with B d m j others masks) a
+      page a lt (yes e) = rw e (record {
+        listed = rw (get_or-set_same B.lists d m 0 (omega (arith, P.lists_length))) h;
+        rules = rw (get_or-set_same B.counts d j 0 (omega (arith, P.counts_length))) W.rules;
+      })
+      page a lt (no f) =
+          let was = P.page a (omega arith) in
+          record {
+            listed = rw (get_or-set_other B.lists d a m 0 f) was.listed;
+            rules = rw (get_or-set_other B.counts d a j 0 f) (rules_kept was.rules wide (omega (arith, was.rules.few)) W.others_kept W.masks_kept);
+          }
 
-  lines_stands : Passes (book_of v) p c → Stands T p c
-  lines_stands s = record {
-    listed = ((L.listed (length p) (omega arith)).only c s.listed).1;
-    keeps = λ i l f. ((L.ruled i (length p) (at p i) l (omega arith) (placed i l) f).only c (rw (left_lane i l) at (s.keeps i l))).1;
+-- ---- the pages say what the tables say
+
+module _ {k : ℕ} {T : Tables} {B : Book} {p : List ℕ} (P : Page k T B (length p)) (b : Below k p) {c : ℕ} (lt : c < k) where
+  other : {r : ℕ} → Rule k T.allowed T.ends (length p) (length p) B.others B.masks r → at p (at B.others r) < k
+  other {r} h = b (at p (at B.others r)) (mem_at p (at B.others r) h.starts)
+
+  page_passes : Stands T p c → Passes B p c
+  page_passes s = record {
+    listed = P.listed.all c lt s.listed;
+    keeps = λ j l.
+        let h = P.rules.rule (length p * most_risers + j) (omega arith) (omega arith) in
+        (h.marked (at p (at B.others (length p * most_risers + j))) (other h)).all c lt (s.keeps (at B.others (length p * most_risers + j)) h.starts h.some);
   }
 
-pub lines_show : {k n d : ℕ} {T : Tables} {v : List (List ℕ)} → k ≤ most_carriers → n ≤ most_risers → n ≤ d → Lines k T d v → Shows k n T (book_of v)
-lines_show wide high le L = record {
-  narrow = λ d c lt h. ((L.listed d (omega arith)).only c h).0;
-  passes = λ p c. lines_passes wide high le L p c;
-  stands = λ p c. lines_stands wide high le L p c;
+  page_stands : Passes B p c → Stands T p c
+  page_stands s = record {
+    listed = (P.listed.only c s.listed).1;
+    keeps = λ e l some. let w = P.rules.all e l some in rw w.3 at (kept w.0 w.1 w.2);
+  }
+    where
+      kept : (r : ℕ) → length p * most_risers ≤ r → r < length p * most_risers + at B.counts (length p)
+          → ¬ (at T.allowed ((at T.ends (length p * most_risers + at B.others r) - 1) * most_pairs + at p (at B.others r) * most_carriers + c) ≡ 0)
+      kept r f t =
+          let h = P.rules.rule r f t in
+          ((h.marked (at p (at B.others r)) (other h)).only c (passes_kept s (omega arith) r f t)).1
+
+pub pages_show : {k n d : ℕ} {T : Tables} {B : Book} → n ≤ most_risers → n ≤ d → Pages k T d B → Shows k n T B
+pages_show high le P = record {
+  orderly = λ d lt. let R = (P.page d (omega arith)).rules in record { few = omega (arith, R.few); before = λ j l. (R.rule (d * most_risers + j) (omega arith) (omega arith)).starts };
+  narrow = λ d c lt h. ((P.page d (omega arith)).listed.only c h).0;
+  passes = λ p c lt b l. page_passes (P.page (length p) (omega arith)) b l;
+  stands = λ p c lt b l. page_stands (P.page (length p) (omega arith)) b l;
 }
