@@ -4,6 +4,8 @@
 // A field is a number, a count, or two bytes. The risers' lists are entered into the table `member`, which the caller lends
 // (`specs/Tables`) and `is_listed` asks. A carrier is read by a function that is told the carriers before it as one number, the least that
 // may come next (`specs/Least`).
+#![tactic(auto)]
+
 ghost use Rattle.std.specs.Prelude.{◌≡◌, List, [], ℕ, ◌≤◌, ◌<◌};
 ghost use Rattle.ground.specs.Meanings.Sheet.{many, carrier, riser, count, two, most_carriers, most_risers};
 ghost use Rattle.fields.specs.Tables.{mark_list, mark_lists, is_listed};

@@ -1,4 +1,6 @@
 // A line of the listing: a row is written into the lent list, four carriers at a time where there are as many.
+#![tactic(auto)]
+
 ghost use Rattle.std.specs.Prelude.{◌≡◌, ◌+◌, ◌≤◌, length, take, drop};
 ghost use Rattle.std.proofs.Math.Seq.{paste};
 ghost use Rattle.ground.specs.Meanings.Sheet.{most_risers};

@@ -1,5 +1,7 @@
 // Sets of carriers as the bits of one number: whether a carrier is in, what two sets share, one carrier more, the least
 // carrier and those after it, and the set that a row of a table marks.
+#![tactic(auto)]
+
 ghost use Rattle.std.specs.Prelude.{◌+◌, ◌<◌, ◌≤◌, length};
 ghost use Rattle.ground.specs.Meanings.Sheet.{most_carriers};
 ghost use Rattle.ground.specs.Laws.Telling.{Tells};

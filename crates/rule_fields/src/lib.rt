@@ -2,6 +2,8 @@
 // read by functions that are told what came before as one number, the least that may come next (specs/Least of crate `fields`).
 //
 // The pairs are entered into the table `allowed`, and the rules by their risers into `ends` (specs/Tables of crate `fields`).
+#![tactic(auto)]
+
 ghost use Rattle.std.specs.Prelude.{◌≡◌, List, [], ◌≤◌, ◌<◌};
 ghost use Rattle.ground.specs.Meanings.Sheet.{wrong_rule, wrong_pair, many, Pair, Rule, allowed_pair, rule, most_risers, most_rules};
 ghost use Rattle.fields.specs.Tables.{is_listed, mark_pairs, rule_tables, put_rule, mark_rules};

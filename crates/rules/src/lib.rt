@@ -3,6 +3,8 @@
 // For each riser stand a mask of its list, and the rules that end there, one after another: for each the other riser, and for each
 // carrier of that riser the mask of the carriers that go with it. `write_book` writes all this, and `standing` reads it: the carriers
 // that may follow a row. What the two promise is in specs/Books.antt, what the tables are in Laws/Tables.antt of ground.
+#![tactic(auto)]
+
 ghost use Rattle.std.specs.Prelude.{◌≡◌, ◌+◌, ◌*◌, ◌≤◌, ◌<◌, length, take};
 ghost use Rattle.ground.specs.Meanings.Group.{at};
 ghost use Rattle.ground.specs.Meanings.Sheet.{most_carriers, most_risers, most_rules};

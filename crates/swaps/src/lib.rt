@@ -2,6 +2,8 @@
 //
 // A swap has 15 entries whatever the sheet's number of carriers; carriers that the sheet does not have stay. No function
 // asks anything of its caller: each promise holds for all bytes, and is the definition that it names.
+#![tactic(auto)]
+
 ghost use Rattle.std.specs.Prelude.{◌≡◌, ◌&&◌, [], leb, length};
 ghost use Rattle.ground.specs.Meanings.Group.{at, mul, identity, move};
 ghost use Rattle.ground.specs.Meanings.Sheet.{all_new};

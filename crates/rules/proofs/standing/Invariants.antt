@@ -1,0 +1,24 @@
+-- `standing` meets its contract. At the head of both loops the carriers that are left are those that go with the rules before the next
+-- one (`Narrowed`), whichever carrier is looked at; a turn asks one rule more.
+-- Assumes nothing.
+use mathlib.Core.Path.{◌≡◌}
+use Prim.Native.Nat.{ℕ, ◌+◌, ◌*◌, ◌≤◌, ◌<◌, ◌-◌}
+use native.Mathlib.Omega.{arith}
+use lib.ListN.{length, take}
+use lib.Seq.{length-take-le}
+use Rattle.ground.specs.Meanings.Group.{at}
+use Rattle.rules.specs.Books.{book}
+use Rattle.rules.specs.Narrowing.{Askable, Narrowed, narrowed_start, narrowed_askable, narrowed_asked, narrowed_whole, narrowed_none}
+use Rattle.rules.proofs.standing.Given as goal
+
+abbrev pub invariant-loop-rule : goal.invariant-loop-rule
+invariant-loop-rule l = Narrowed (book l.lists l.counts l.others l.masks) l.d (take l.d l.row) l.least l.rule l.open × (l.initial.rule ≤ l.rule)
+
+abbrev pub decreases-loop-rule : goal.decreases-loop-rule
+decreases-loop-rule l = l.last - l.rule
+
+abbrev pub invariant-carriers : goal.invariant-carriers
+invariant-carriers l = Narrowed (book l.lists l.counts l.others l.masks) l.d (take l.d l.row) l.least l.rule l.open
+
+abbrev pub decreases-carriers : goal.decreases-carriers
+decreases-carriers l = l.last - l.rule

@@ -1,0 +1,10 @@
+-- `write_masks` meets its contract. The masks of the carriers passed are written (`Masked`), and a turn writes the next one.
+-- Assumes nothing.
+use Prim.Native.Nat.{◌≤◌, ◌<◌, ◌+◌, ◌*◌, ◌-◌}
+use native.Mathlib.Omega.{arith}
+use lib.ListN.{length}
+use Rattle.rules.specs.Writing.{Masked, masked_start, masked_more, masked_end}
+use Rattle.rules.proofs.write_masks.Given as goal
+
+abbrev pub invariant-loop-u : goal.invariant-loop-u
+invariant-loop-u l = (l.u ≤ l.carriers) × Masked l.carriers l.allowed l.q l.rule l.u l.initial.masks l.masks

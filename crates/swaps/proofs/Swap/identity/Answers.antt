@@ -1,0 +1,17 @@
+use mathlib.Core.Path.{refl}
+use Prim.Native.Nat.{ℕ, ◌-◌}
+use native.Mathlib.Omega.{arith}
+use lib.ListN.{replicate}
+use Rattle.ground.specs.Meanings.Group.{identity}
+use Rattle.ground.specs.Laws.Filling.{Filled, filled_start, filled_more, filled_table}
+use Rattle.swaps.proofs.Swap.identity.Goals as goal
+
+pub loop-i-init : goal.loop-i-init
+loop-i-init c = filled_start _ _
+
+pub loop-i-preserved : goal.loop-i-preserved
+loop-i-preserved c = filled_more c.loop-i.invariant (omega arith) _ refl
+
+pub returns : goal.returns
+unfolding identity
+returns c = filled_table c.loop-i.invariant (omega arith)
