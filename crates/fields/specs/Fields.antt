@@ -7,7 +7,7 @@ use Rattle.std.proofs.Math.Dec.{leb-suc-suc}
 use Rattle.std.proofs.lemmas.Bool.{lt-leb}
 use Rattle.ground.specs.declared.Fault.{Fault}
 use Rattle.ground.specs.Meanings.Sheet.{sheet_ends, wrong_count, fault, byte, two, count}
-use Rattle.ground.specs.Laws.Reading.{byte_in, byte_out, two_in, two_out, checked_got, checked_bad, checked_refused, checked_same, checked_passed, and_right}
+use Rattle.ground.proofs.Laws.Reading.{byte_in, byte_out, two_in, two_out, checked_got, checked_bad, checked_refused, checked_same, checked_passed, and_right}
 use Rattle.fields.specs.declared.Number.{Number}
 use Rattle.fields.specs.declared.Two.{Two}
 use Rattle.fields.specs.Least.{number_from}

@@ -10,7 +10,8 @@ use Rattle.std.proofs.Math.Path.{refl}
 use Rattle.std.proofs.Common.{sym, ap, ◌∙◌, arith}
 use Rattle.ground.specs.declared.Fault.{Fault}
 use Rattle.ground.specs.Meanings.Sheet.{got, refused, Reading, many}
-use Rattle.ground.specs.Laws.Reading.{Walk, walk_starts, walk_more, walk_refused, walk_ends}
+use Rattle.ground.specs.Laws.Reading.{Walk}
+use Rattle.ground.proofs.Laws.Reading.{walk_starts, walk_more, walk_refused, walk_ends}
 use Rattle.fields.specs.declared.Section.{Section}
 use Rattle.fields.specs.Tables.{put_all}
 use Rattle.fields.specs.Answers.{Answers, tell_section, answer_got, answer_refused}

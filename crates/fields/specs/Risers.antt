@@ -13,7 +13,7 @@ use borrow.Author.Tests.{lt-ltb, le-ltb, le-leb, ltb-true}
 use Rattle.ground.specs.Meanings.Group.{at}
 use Rattle.ground.specs.declared.Fault.{Fault}
 use Rattle.ground.specs.Meanings.Sheet.{wrong_carrier, Outcome, byte, many, carrier, riser, count, after, most_carriers, most_risers}
-use Rattle.ground.specs.Laws.Reading.{checked_same, and_left, and_right}
+use Rattle.ground.proofs.Laws.Reading.{checked_same, and_left, and_right}
 use Rattle.fields.specs.declared.Section.{Section}
 use Rattle.fields.specs.declared.Number.{Number}
 use Rattle.fields.specs.Tables.{put_carrier, mark_list, mark_lists, is_listed}

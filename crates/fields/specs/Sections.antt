@@ -13,7 +13,7 @@ use native.Mathlib.Omega.{arith}
 use Rattle.std.proofs.Math.ListN.{length}
 use Rattle.ground.specs.declared.Fault.{Fault}
 use Rattle.ground.specs.Meanings.Sheet.{Outcome, got, refused, Reading, and_then, count, many, ◌>>=◌}
-use Rattle.ground.specs.Laws.Reading.{and_then_got, many_length}
+use Rattle.ground.proofs.Laws.Reading.{and_then_got, many_length}
 use Rattle.fields.specs.declared.Section.{Section}
 use Rattle.fields.specs.declared.Number.{Number}
 use Rattle.fields.specs.Answers.{Answers, tell_number, tell_section, tell_count, answer_got, answer_refused, number_got, number_refused, section_got, section_refused, count_got}

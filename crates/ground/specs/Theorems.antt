@@ -1,14 +1,12 @@
--- What the customer asked for, as statements over the meanings.
+-- The words that the theorems speak in; what the customer asked for is stated with them and proved in proofs/Theorems.
 --
---   Kinds          demand 3: each plan an image of exactly one listed plan; sizes sum to the total; nothing listed exactly if no plan
---   OneAnswer      no second answer fits, for listing and for folding
---   Listed         demands 2 and 3 for whatever fits the meaning of a listing, so for the code
---   Folded         demand 2 for whatever fits the meaning of folding; where one member carries the row, it is settled too
---   LongestSheet   the longest sheet is 30,214 bytes, and one byte more decides every sheet
---   Reckoned       every call has an answer, found by trying all rows and all images
+--   Kinds          the one listed row that a plan is an image of
+--   OneAnswer      what two foldings of one row agree in
+--   Listed         what an accepted listing has
+--   Folded         what an accepted folding has
+--   LongestSheet   the longest sheet
 pub mod Kinds
 pub mod OneAnswer
-pub mod Reckoned
 pub mod Listed
 pub mod Folded
 pub mod LongestSheet

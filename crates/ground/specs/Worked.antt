@@ -1,25 +1,16 @@
--- Twelve sheets worked by hand, with their answers, proved together against the meanings: one table, one statement.
+-- Twelve sheets worked by hand, with their answers: one table.
 --
 --   Case      a call, with all that it is given, and all that it must leave
 --   Right c   what the case says is left fits the meanings
 --   starred   the table
 --
--- antt computes what `Reckoned` makes of each case; where that is what the table says, the meanings hold of it (`right`).
--- Assumes nothing.
-use Rattle.std.specs.Prelude.{◌≡◌, refl, ℕ}
-use Rattle.std.proofs.Common.{subst}
-use mathlib.Core.List.{List, [], ◌∷◌, ◌++◌, map, head-eq_of_cons-eq, tail-eq_of_cons-eq}
-use Rattle.std.proofs.Math.Decide.{ℕ_discrete, dec_lt}
-use Rattle.ground.specs.Meanings.Group.{mul, identity}
-use Rattle.ground.specs.Meanings.Sheet.{sheet_ends, list_not_kept, rule_not_kept, bytes_follow, opened_beyond, listed_beyond, fault, no_fault, job_sheet, count, checked, byte, two, field, many, riser, rule_that, swap, carrier, allowed_pair, nothing_more, after, is_in, is_pair_in, first_from, all_new, keeps_carrier, keeps_pair}
-use Rattle.ground.specs.Meanings.Listing.{Left, left, Lists, room}
+-- That every case of it is right is proved in proofs/Worked.antt.
+-- These are definitions: nothing is assumed or proved here.
+use Rattle.std.specs.Prelude.{ℕ}
+use mathlib.Core.List.{List, [], ◌∷◌, ◌++◌}
+use Rattle.ground.specs.Meanings.Sheet.{sheet_ends, list_not_kept, rule_not_kept, bytes_follow, opened_beyond, listed_beyond, fault, no_fault}
+use Rattle.ground.specs.Meanings.Listing.{Left, left, Lists}
 use Rattle.ground.specs.Meanings.Folding.{Folded, folded, Folds}
-use Rattle.ground.specs.Laws.Lists.{mem?, all_or, row?}
-use Rattle.ground.specs.Laws.Order.{three}
-use Rattle.ground.specs.Laws.Closure.{closed_or, grown, closure}
-use Rattle.ground.specs.Laws.Images.{images, members}
-use Rattle.ground.specs.Laws.Reading.{All}
-use Rattle.ground.specs.Theorems.Reckoned.{decided, all?, below?, implies?, order?, listed?, keeps?, leading?, opened_rows, plans_of, line, lines_of, reckon_on, reckon_read, reckon_list, reckoned_list, whole?, fitting?, folding?, head, folding_member, fold_on, fold_read, reckon_fold, reckoned_fold}
 
 pub data Case : Type 0 where
   lists : List ℕ → ℕ → List ℕ → List ℕ → Left → Case
@@ -88,23 +79,3 @@ starred =
     -- K, M: folded rows
     folds sheet_a (2 ∷ 0 ∷ []) (9 ∷ 9 ∷ []) (9 ∷ 9 ∷ 9 ∷ []) (folded no_fault 6 (0 ∷ 1 ∷ []) (1 ∷ 2 ∷ 0 ∷ [])) ∷
     folds sheet_d (1 ∷ 0 ∷ []) (9 ∷ 9 ∷ []) (9 ∷ 9 ∷ 9 ∷ []) (folded no_fault 3 (0 ∷ 2 ∷ []) (2 ∷ 0 ∷ 1 ∷ [])) ∷ []
-
--- ---- the statement
-
--- the case with what is reckoned in place of what it says
-reckoned : Case → Case
-reckoned (lists s allowance bytes sizes o) = lists s allowance bytes sizes (reckon_list s allowance bytes sizes)
-reckoned (folds s row first member o) = folds s row first member (reckon_fold s row first member)
-
-reckoned_right : (c : Case) → Right (reckoned c)
-unfolding reckoned
-reckoned_right (lists s allowance bytes sizes o) = reckoned_list s allowance bytes sizes
-reckoned_right (folds s row first member o) = reckoned_fold s row first member
-
-right : (t : List Case) → map reckoned t ≡ t → All Right t
-right [] e = tt
-right (c ∷ t) e = (subst Right (head-eq_of_cons-eq e) (reckoned_right c), right t (tail-eq_of_cons-eq e))
-
-pub worked : All Right starred
-unfolding reckoned job_sheet count checked byte two field many riser rule_that swap carrier allowed_pair nothing_more after is_in is_pair_in first_from all_new keeps_carrier keeps_pair mul identity room ℕ_discrete dec_lt mem? all_or row? three closed_or grown closure images members decided all? below? implies? order? listed? keeps? leading? opened_rows plans_of line lines_of reckon_on reckon_read reckon_list whole? fitting? folding? head folding_member fold_on fold_read reckon_fold
-worked = right starred refl

@@ -1,6 +1,7 @@
 // The limits of a job sheet, the sizes of its tables and the numbers of its refusals, as the code names them, and the fault, which is what
-// a refusal tells. The definitions' own names for them are in specs/Meanings/Sheet.antt; everything else in this crate is definitions and
-// laws, under specs/.
+// a refusal tells. The definitions' own names for them are in specs/Meanings/Sheet.antt; everything else in this crate is definitions,
+// under specs/, and laws, under proofs/.
+#![tactic(auto)]
 
 ghost use Rattle.std.specs.Prelude.{◌≡◌};
 ghost use Rattle.ground.specs.Meanings.Sheet.{fault, no_fault};

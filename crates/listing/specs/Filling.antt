@@ -4,7 +4,8 @@ use Rattle.std.specs.Prelude.{◌≡◌, refl, List, ◌∷◌, ℕ, zero, suc, 
 use Rattle.std.proofs.Common.{ap, ◌∙◌}
 use Rattle.ground.specs.Meanings.Group.{tab}
 use Rattle.ground.specs.Meanings.Listing.{filled}
-use Rattle.ground.specs.Laws.Filling.{Filled, filled_table}
+use Rattle.ground.specs.Laws.Filling.{Filled}
+use Rattle.ground.proofs.Laws.Filling.{filled_table}
 
 table_constant : (n x : ℕ) → tab n (λ j. x) ≡ replicate n x
 table_constant zero x = refl

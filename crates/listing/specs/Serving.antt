@@ -6,8 +6,9 @@ use Rattle.ground.specs.Meanings.Exactly.{◌∈◌}
 use Rattle.ground.specs.Meanings.Group.{at}
 use Rattle.ground.specs.Meanings.Sheet.{Sheet, Rule, Pair, no_rule, is_in, is_pair_in, most_carriers, most_risers, most_pairs}
 use Rattle.ground.specs.Meanings.Plans.{risers, list}
-use Rattle.ground.specs.Laws.Lists.{index_of}
-use Rattle.ground.specs.Laws.Sheets.{Sound, is_in_mem, mem_is_in, is_pair_in_mem, mem_is_pair_in}
+use Rattle.ground.proofs.Laws.Lists.{index_of}
+use Rattle.ground.specs.Laws.Sheets.{Sound}
+use Rattle.ground.proofs.Laws.Sheets.{is_in_mem, mem_is_in, is_pair_in_mem, mem_is_pair_in}
 use Rattle.sheet.specs.Serves as reader
 use Rattle.sheet.specs.Serves.{bit, risers_of}
 use Rattle.sheet.specs.Callers.{swaps_first, padded_pad}

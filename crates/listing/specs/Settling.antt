@@ -17,7 +17,7 @@ use Rattle.ground.specs.Meanings.Sheet.{opened_beyond, listed_beyond, fault, no_
 use Rattle.ground.specs.Meanings.Plans.{risers}
 use Rattle.ground.specs.Meanings.Listing.{Line, on_sheet, Listing, room, filled, over, flat, rows_of, sizes_of, Left, left, ListsOn, beyond_allowance, beyond_room, listed, Lists}
 use Rattle.ground.specs.Laws.Classes.{total}
-use Rattle.ground.specs.Theorems.Kinds.{plan_kinds, sizes_sum}
+use Rattle.ground.proofs.Theorems.Kinds.{plan_kinds, sizes_sum}
 use Rattle.sheet.specs.declared.Head.{Head}
 use Rattle.sheet.specs.Serves as reader
 use Rattle.sheet.specs.Callers.{accepted_as, refused_as, sheet_sound, swaps_table}

@@ -16,7 +16,7 @@ use Rattle.std.proofs.Math.ListN.{set}
 use borrow.Author.Tests.{lt-ltb, le-ltb, le-leb, lt-leb, ltb-true, eq-eqb, ne_eqb}
 use Rattle.ground.specs.declared.Fault.{Fault}
 use Rattle.ground.specs.Meanings.Sheet.{wrong_rule, wrong_pair, fault, got, and_then, checked, two, Pair, Rule, many, count, allowed_pair, rule_that, rule, after, before, most_carriers, most_risers, most_pairs}
-use Rattle.ground.specs.Laws.Reading.{and_then_got, checked_got, checked_bad, checked_refused, checked_same, checked_passed, and_left, and_right}
+use Rattle.ground.proofs.Laws.Reading.{and_then_got, checked_got, checked_bad, checked_refused, checked_same, checked_passed, and_left, and_right}
 use Rattle.fields.specs.declared.Section.{Section}
 use Rattle.fields.specs.declared.Number.{Number}
 use Rattle.fields.specs.declared.Two.{Two}

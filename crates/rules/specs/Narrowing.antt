@@ -12,7 +12,7 @@ use Rattle.std.proofs.Common.{sym, ap, subst, ◌∙◌, arith, get_or-take, len
 use Rattle.std.proofs.Math.Decide.{ℕ_discrete}
 use Rattle.ground.specs.Meanings.Group.{at}
 use Rattle.ground.specs.Meanings.Sheet.{most_carriers, most_risers}
-use Rattle.ground.specs.Laws.Lists.{mem_at}
+use Rattle.ground.proofs.Laws.Lists.{mem_at}
 use Rattle.ground.specs.Laws.Rows.{Below}
 use Rattle.masks.specs.Masks.{Has, has_none, Both}
 use Rattle.rules.specs.Books.{Book, Orderly, Passes, Standing}

@@ -21,7 +21,7 @@ use Rattle.std.proofs.Math.Decide.{ℕ_discrete}
 use Rattle.std.proofs.lemmas.List.{length-replicate}
 use Rattle.ground.specs.Meanings.Group.{at}
 use Rattle.ground.specs.Meanings.Sheet.{most_carriers, most_risers, most_rules, most_pairs}
-use Rattle.ground.specs.Laws.Lists.{mem_at}
+use Rattle.ground.proofs.Laws.Lists.{mem_at}
 use Rattle.ground.specs.Laws.Rows.{Below}
 use Rattle.masks.specs.Masks.{Marked}
 use Rattle.ground.specs.Laws.Tables.{Tables, Stands}

@@ -18,7 +18,8 @@ use Rattle.ground.specs.declared.Fault.{Fault}
 use Rattle.ground.specs.Meanings.Sheet.{Outcome, got, refused, Sheet, job_sheet, is_listed_in, allowed_by, Accepted, Refused, most_carriers, most_risers, most_rules, most_pairs, most_swaps}
 use Rattle.ground.specs.Laws.Members.{Perms}
 use Rattle.ground.specs.Laws.Padding.{pad}
-use Rattle.ground.specs.Laws.Sheets.{Sound, accepted_sound}
+use Rattle.ground.specs.Laws.Sheets.{Sound}
+use Rattle.ground.proofs.Laws.Sheets.{accepted_sound}
 use Rattle.sheet.specs.declared.Head.{Head}
 use Rattle.fields.specs.Tables.{padded}
 use Rattle.sheet.specs.Serves.{bit, risers_of, Serves, Blank, Reads, tell_sheet}

@@ -14,7 +14,7 @@ use Rattle.std.proofs.Math.ListN.{get_or-append}
 use Rattle.std.proofs.Math.Seq.{get_or-append_seam}
 use Rattle.ground.specs.Meanings.Group.{at}
 use Rattle.ground.specs.Meanings.Sheet.{got, Reading, checked, two, Pair, Rule, no_rule, many, count, allowed_pair, rule_that, rule, after, before, most_risers, most_pairs}
-use Rattle.ground.specs.Laws.Reading.{and_then_got, checked_passed, and_left, and_right}
+use Rattle.ground.proofs.Laws.Reading.{and_then_got, checked_passed, and_left, and_right}
 use Rattle.fields.specs.Tables.{put_all, key, RuleTables, put_rule, mark_rules}
 use Rattle.fields.specs.Answers.{pair}
 use Rattle.fields.specs.Least.{ordered}

@@ -22,7 +22,8 @@ use Rattle.std.proofs.Math.Seq.{get_or-set_other}
 use borrow.Author.Tests.{lt-ltb, le-ltb, ltb-true, eq-eqb, ne_eqb}
 use Rattle.ground.specs.Meanings.Group.{at}
 use Rattle.ground.specs.Meanings.Sheet.{got, many, carrier, riser, count, checked, byte, two, Pair, Rule, no_rule, rule, rule_that, allowed_pair, is_in, is_pair_in, after, before, is_listed_in, allowed_by, most_carriers, most_risers, most_rules, most_pairs}
-use Rattle.ground.specs.Laws.Reading.{and_then_got, checked_passed, and_left, and_right, All, many_all}
+use Rattle.ground.specs.Laws.Reading.{All}
+use Rattle.ground.proofs.Laws.Reading.{and_then_got, checked_passed, and_left, and_right, many_all}
 use Rattle.fields.specs.Tables.{put_all, mark_lists, is_listed, key, mark_pairs, RuleTables, put_rule, mark_rules, is_allowed}
 use Rattle.sheet.specs.Serves.{bit}
 use Rattle.fields.specs.Risers.{listed_small}

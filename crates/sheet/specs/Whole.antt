@@ -13,7 +13,8 @@ use Rattle.std.proofs.Math.Seq.{set-append_seam}
 use Rattle.ground.specs.Meanings.Group.{identity}
 use Rattle.ground.specs.declared.Fault.{Fault}
 use Rattle.ground.specs.Meanings.Sheet.{bytes_follow, fault, Outcome, got, refused, and_then, many, count, riser, rule, Rule, swap, nothing_more, is_listed_in, allowed_by, Sheet, job_sheet, most_carriers, most_risers, most_rules, most_pairs, most_swaps}
-use Rattle.ground.specs.Laws.Reading.{All, and_then_got}
+use Rattle.ground.specs.Laws.Reading.{All}
+use Rattle.ground.proofs.Laws.Reading.{and_then_got}
 use Rattle.fields.specs.declared.Number.{Number}
 use Rattle.sheet.specs.declared.Head.{Head}
 use Rattle.fields.specs.Tables.{mark_lists, is_listed, is_allowed, RuleTables, rule_tables, mark_rules, padded, put_swap, put_all}

@@ -18,8 +18,8 @@ use Rattle.std.proofs.lemmas.List.{set_at}
 use Rattle.ground.specs.Meanings.Group.{at, identity}
 use Rattle.ground.specs.declared.Fault.{Fault}
 use Rattle.ground.specs.Meanings.Sheet.{sheet_ends, no_permutation, list_not_kept, rule_not_kept, fault, Outcome, got, refused, Reading, checked, field, many, each, implies, all_new, keeps_carrier, keeps_lists, keeps_pair, keeps_rules, swap, most_carriers}
-use Rattle.ground.specs.Laws.Permutations.{perm_identity}
-use Rattle.ground.specs.Laws.Reading.{field_in, field_out, checked_got, checked_bad, checked_refused}
+use Rattle.ground.proofs.Laws.Permutations.{perm_identity}
+use Rattle.ground.proofs.Laws.Reading.{field_in, field_out, checked_got, checked_bad, checked_refused}
 use Rattle.fields.specs.declared.Section.{Section}
 use Rattle.fields.specs.Tables.{is_listed, is_allowed, padded, put_swap, put_all}
 use Rattle.fields.specs.Answers.{Answers, tell_section, answer_got, answer_refused, section_got, section_refused}

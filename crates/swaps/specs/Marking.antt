@@ -18,7 +18,7 @@ use Rattle.std.proofs.lemmas.List.{length-replicate, get_or-replicate}
 use Rattle.std.proofs.Math.Seq.{take-suc}
 use Rattle.ground.specs.Meanings.Group.{at}
 use Rattle.ground.specs.Meanings.Sheet.{is_in, all_new}
-use Rattle.ground.specs.Laws.Newness.{is_in_snoc}
+use Rattle.ground.proofs.Laws.Newness.{is_in_snoc}
 
 -- ---- what has passed
 

@@ -13,7 +13,7 @@ use native.Mathlib.Omega.{arith}
 use Rattle.std.proofs.Math.Decide.{ℕ_discrete}
 use Rattle.std.proofs.Math.Seq.{ext_get_or}
 use Rattle.ground.specs.Meanings.Group.{at, tab}
-use Rattle.ground.specs.Laws.Lists.{length_tab, at_tab}
+use Rattle.ground.proofs.Laws.Lists.{length_tab, at_tab}
 use Rattle.ground.specs.Laws.Permutations.{find, inv}
 
 pub record Undone (k : ℕ) (p out : List ℕ) (i : ℕ) : Type 0 where

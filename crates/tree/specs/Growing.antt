@@ -14,9 +14,10 @@ use Rattle.ground.specs.Meanings.Exactly.{◌∈◌}
 use Rattle.ground.specs.Meanings.Group.{First}
 use Rattle.ground.specs.Meanings.Sheet.{Sheet}
 use Rattle.ground.specs.Meanings.Plans.{Swap, ImageOn, ClassSize}
-use Rattle.ground.specs.Laws.Orbits.{orbit_self}
+use Rattle.ground.proofs.Laws.Orbits.{orbit_self}
 use Rattle.ground.specs.Laws.Rows.{Below}
-use Rattle.ground.specs.Laws.Holding.{Held, Leads, OrbitLength, held_perms, first_least, first_snoc, class_nil, class_snoc}
+use Rattle.ground.specs.Laws.Holding.{Held, Leads, OrbitLength}
+use Rattle.ground.proofs.Laws.Holding.{held_perms, first_least, first_snoc, class_nil, class_snoc}
 use Rattle.ground.specs.Laws.Sheets.{Sound}
 
 pub record Grows (X : Sheet) : Type 1 where

@@ -14,8 +14,8 @@ use Rattle.std.proofs.Math.Seq.{append_snoc}
 use Rattle.ground.specs.Meanings.Exactly.{◌∈◌, Enumerates}
 use Rattle.ground.specs.Meanings.Group.{◌≼◌}
 use Rattle.ground.specs.Meanings.Listing.{Line, rows_of, Ascending}
-use Rattle.ground.specs.Laws.Enumerations.{enum_append, enum_iff}
-use Rattle.ground.specs.Laws.Order.{order_under, order_prefix}
+use Rattle.ground.proofs.Laws.Enumerations.{enum_append, enum_iff}
+use Rattle.ground.proofs.Laws.Order.{order_under, order_prefix}
 use Rattle.tree.specs.Visits.{line, Weight, join_over, visits, branch}
 
 rows_append : (xs ys : List Line) → rows_of (xs ++ ys) ≡ rows_of xs ++ rows_of ys

@@ -2,10 +2,10 @@
 --
 --   from_risers, from_rules, from_swaps, last   the rest of the reading, from the place where that section begins
 --
--- Assumes nothing.
-use Rattle.std.specs.Prelude.{◌≡◌, List, [], ℕ}
-use Rattle.std.proofs.Math.Path.{refl}
-use Rattle.ground.specs.Meanings.Sheet.{Outcome, got, and_then, many, count, riser, Rule, rule, swap, nothing_more, Sheet, job_sheet, is_listed_in, allowed_by, most_carriers, most_risers, most_rules, most_swaps}
+-- That they are the whole sheet is in proofs/Laws/Sections.antt.
+-- These are definitions: nothing is assumed or proved here.
+use Rattle.std.specs.Prelude.{List, [], ℕ}
+use Rattle.ground.specs.Meanings.Sheet.{Outcome, got, and_then, many, count, riser, Rule, rule, swap, nothing_more, Sheet, is_listed_in, allowed_by, most_rules, most_swaps}
 
 module _ (s : List ℕ) where
   abbrev pub last : ℕ → List (List ℕ) → List Rule → List (List ℕ) → ℕ → Outcome Sheet
@@ -19,7 +19,3 @@ module _ (s : List ℕ) where
 
   abbrev pub from_risers : ℕ → ℕ → ℕ → Outcome Sheet
   from_risers k n p = and_then (many (riser k) n [] s p) (λ ls p'. and_then (count 0 most_rules s p') (λ m p''. from_rules k n ls m p''))
-
-  pub whole : (from : ℕ) → job_sheet s from ≡ and_then (count 1 most_carriers s from) (λ k p. and_then (count 1 most_risers s p) (λ n p'. from_risers k n p'))
-  unfolding job_sheet
-  whole from = refl

@@ -5,7 +5,8 @@ use native.Mathlib.Nat.{zero-add}
 use native.Mathlib.Omega.{arith}
 use lib.ListN.{drop, length-drop}
 use lib.Seq.{get_or-drop}
-use Rattle.ground.specs.Laws.Copying.{Copying, copying_start, copying_more, copying_end}
+use Rattle.ground.specs.Laws.Copying.{Copying}
+use Rattle.ground.proofs.Laws.Copying.{copying_start, copying_more, copying_end}
 use Rattle.lines.proofs.piece.Goals as goal
 
 pub loop-i-init : goal.loop-i-init

@@ -8,7 +8,8 @@ use native.Mathlib.Nat.{zero-add}
 use native.Mathlib.Omega.{arith}
 use lib.ListN.{drop, length-drop}
 use lib.Seq.{get_or-drop}
-use Rattle.ground.specs.Laws.Copying.{Copying, copying_start, copying_more, copying_end}
+use Rattle.ground.specs.Laws.Copying.{Copying}
+use Rattle.ground.proofs.Laws.Copying.{copying_start, copying_more, copying_end}
 use Rattle.lines.proofs.piece.Given as goal
 
 abbrev pub invariant-loop-i : goal.invariant-loop-i

@@ -1,6 +1,7 @@
 use Prim.Native.Nat.{◌-◌}
 use native.Mathlib.Omega.{arith}
-use Rattle.ground.specs.Laws.Copying.{Copying, copying_start, copying_more, copying_end}
+use Rattle.ground.specs.Laws.Copying.{Copying}
+use Rattle.ground.proofs.Laws.Copying.{copying_start, copying_more, copying_end}
 use Rattle.lines.proofs.write_piece.Goals as goal
 
 pub loop-i-init : goal.loop-i-init

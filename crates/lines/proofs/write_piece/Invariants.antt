@@ -2,7 +2,8 @@
 -- Assumes nothing.
 use Prim.Native.Nat.{◌-◌}
 use native.Mathlib.Omega.{arith}
-use Rattle.ground.specs.Laws.Copying.{Copying, copying_start, copying_more, copying_end}
+use Rattle.ground.specs.Laws.Copying.{Copying}
+use Rattle.ground.proofs.Laws.Copying.{copying_start, copying_more, copying_end}
 use Rattle.lines.proofs.write_piece.Given as goal
 
 abbrev pub invariant-loop-i : goal.invariant-loop-i

@@ -8,7 +8,8 @@ use Prim.Native.Nat.{ℕ, ◌+◌, ◌-◌, ◌≤◌}
 use native.Mathlib.Omega.{arith}
 use lib.ListN.{length, take, drop}
 use lib.Seq.{paste}
-use Rattle.ground.specs.Laws.Copying.{Copying, copying_start, copying_end}
+use Rattle.ground.specs.Laws.Copying.{Copying}
+use Rattle.ground.proofs.Laws.Copying.{copying_start, copying_end}
 use Rattle.lines.specs.Copying.{Nearly, copying_over}
 use Rattle.lines.proofs.write_row.Goals as goal
 

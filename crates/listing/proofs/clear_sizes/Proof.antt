@@ -3,7 +3,7 @@ use Prim.Native.Nat.{◌-◌}
 use native.Mathlib.Omega.{arith}
 use mathlib.Core.Path.{refl}
 use lib.ListN.{length}
-use Rattle.ground.specs.Laws.Filling.{filled_start, filled_more}
+use Rattle.ground.proofs.Laws.Filling.{filled_start, filled_more}
 use Rattle.listing.specs.Filling.{FilledWith, filled_with}
 use Rattle.listing.proofs.clear_sizes.Statement.{statement}
 use Rattle.listing.proofs.clear_sizes.Tie as tie

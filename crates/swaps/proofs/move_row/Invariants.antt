@@ -6,7 +6,8 @@ use native.Mathlib.Nat.{le_refl}
 use native.Mathlib.Omega.{arith}
 use lib.ListN.{length}
 use Rattle.ground.specs.Meanings.Group.{at}
-use Rattle.ground.specs.Laws.Filling.{Filled, filled_start, filled_more, filled_move}
+use Rattle.ground.specs.Laws.Filling.{Filled}
+use Rattle.ground.proofs.Laws.Filling.{filled_start, filled_more, filled_move}
 use Rattle.swaps.proofs.move_row.Given as goal
 
 abbrev pub invariant-loop-i : goal.invariant-loop-i

@@ -3,7 +3,8 @@ use Prim.Native.Nat.{ℕ, ◌-◌}
 use native.Mathlib.Omega.{arith}
 use lib.ListN.{replicate}
 use Rattle.ground.specs.Meanings.Group.{identity}
-use Rattle.ground.specs.Laws.Filling.{Filled, filled_start, filled_more, filled_table}
+use Rattle.ground.specs.Laws.Filling.{Filled}
+use Rattle.ground.proofs.Laws.Filling.{filled_start, filled_more, filled_table}
 use Rattle.swaps.proofs.Swap.identity.Goals as goal
 
 pub loop-i-init : goal.loop-i-init

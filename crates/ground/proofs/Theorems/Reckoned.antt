@@ -20,16 +20,20 @@ use Rattle.ground.specs.Meanings.Sheet.{opened_beyond, listed_beyond, row_not_wh
 use Rattle.ground.specs.Meanings.Plans.{risers, list, Row, Allows, Keeps, Plan, ImageOn, Opened, ClassSize, OpenedIs, TotalIs}
 use Rattle.ground.specs.Meanings.Listing.{Line, rows_of, sizes_of, Ascending, on_sheet, Listable, Listing, room, flat, over, filled, Left, left, ListsOn, beyond_allowance, beyond_room, listed, Lists}
 use Rattle.ground.specs.Meanings.Folding.{Whole, Fitting, Folded, folded, FoldsOn, not_whole, not_fitting, carried, Folds}
-use Rattle.ground.specs.Laws.Lists.{all_or, length_tab, index_of}
-use Rattle.ground.specs.Laws.Enumerations.{pigeonhole, counts_same, enum_iff, enum_filter, filter, in_filter, filter_in}
-use Rattle.ground.specs.Laws.Permutations.{mem_range}
-use Rattle.ground.specs.Laws.Order.{three}
-use Rattle.ground.specs.Laws.Rows.{Below, image_by, image_trans}
-use Rattle.ground.specs.Laws.Classes.{first_exists}
-use Rattle.ground.specs.Laws.Sheets.{Sound, accepted_sound, Ascends, ascends_once, row_below, whole_row, is_in_mem, mem_is_in, is_pair_in_mem, mem_is_pair_in}
-use Rattle.ground.specs.Laws.Choices.{Drawn, Begun, choices, beginnings, choices_enum, beginnings_enum, choices_ascend, filter_ascend, choices_most}
-use Rattle.ground.specs.Laws.Images.{images, images_enum, members, members_enum}
-use Rattle.ground.specs.Theorems.Kinds.{whole_kinds}
+use Rattle.ground.proofs.Laws.Lists.{all_or, length_tab, index_of}
+use Rattle.ground.specs.Laws.Enumerations.{filter}
+use Rattle.ground.proofs.Laws.Enumerations.{pigeonhole, counts_same, enum_iff, enum_filter, in_filter, filter_in}
+use Rattle.ground.proofs.Laws.Permutations.{mem_range}
+use Rattle.ground.proofs.Laws.Order.{three}
+use Rattle.ground.specs.Laws.Rows.{Below}
+use Rattle.ground.proofs.Laws.Rows.{image_by, image_trans}
+use Rattle.ground.proofs.Laws.Classes.{first_exists}
+use Rattle.ground.specs.Laws.Sheets.{Sound, Ascends}
+use Rattle.ground.proofs.Laws.Sheets.{accepted_sound, ascends_once, row_below, whole_row, is_in_mem, mem_is_in, is_pair_in_mem, mem_is_pair_in}
+use Rattle.ground.specs.Laws.Choices.{Drawn, Begun, choices, beginnings}
+use Rattle.ground.proofs.Laws.Choices.{choices_enum, beginnings_enum, choices_ascend, filter_ascend, choices_most}
+use Rattle.ground.proofs.Laws.Images.{images, images_enum, members, members_enum}
+use Rattle.ground.proofs.Theorems.Kinds.{whole_kinds}
 
 -- ---- decisions
 

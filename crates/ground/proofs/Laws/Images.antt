@@ -13,13 +13,17 @@ use mathlib.Core.List.Memᴰ
 use Rattle.std.proofs.lemmas.List.{length-replicate, get_or-replicate}
 use Rattle.ground.specs.Meanings.Exactly.{◌∈◌, Once, Enumerates}
 use Rattle.ground.specs.Meanings.Group.{at, tab, mul, identity, Member, none, step, In, move, Image}
-use Rattle.ground.specs.Laws.Lists.{row?, at_tab, length_tab, mem_at, at_mem, once_of_inj}
-use Rattle.ground.specs.Laws.Enumerations.{enum_iff}
-use Rattle.ground.specs.Laws.Closure.{Reach, here, further, closure, closure_enum}
-use Rattle.ground.specs.Laws.Permutations.{mem_range}
-use Rattle.ground.specs.Laws.Members.{Perms, member_perm}
-use Rattle.ground.specs.Laws.Rows.{Below, move_mul, move_identity, image_self, image_length, image_below}
-use Rattle.ground.specs.Laws.Choices.{choices, choices_enum}
+use Rattle.ground.proofs.Laws.Lists.{row?, at_tab, length_tab, mem_at, at_mem, once_of_inj}
+use Rattle.ground.proofs.Laws.Enumerations.{enum_iff}
+use Rattle.ground.specs.Laws.Closure.{Reach, here, further}
+use Rattle.ground.proofs.Laws.Closure.{closure, closure_enum}
+use Rattle.ground.proofs.Laws.Permutations.{mem_range}
+use Rattle.ground.specs.Laws.Members.{Perms}
+use Rattle.ground.proofs.Laws.Members.{member_perm}
+use Rattle.ground.specs.Laws.Rows.{Below}
+use Rattle.ground.proofs.Laws.Rows.{move_mul, move_identity, image_self, image_length, image_below}
+use Rattle.ground.specs.Laws.Choices.{choices}
+use Rattle.ground.proofs.Laws.Choices.{choices_enum}
 
 abbrev pub moves : List (List ℕ) → List ℕ → List (List ℕ)
 moves S r = map (λ g. move g r) S

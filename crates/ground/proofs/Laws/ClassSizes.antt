@@ -8,12 +8,15 @@ use mathlib.Core.List.{List, [], ◌∷◌, ◌++◌, map, tail-eq_of_cons-eq}
 use Rattle.std.proofs.lemmas.List.{length-map}
 use Rattle.ground.specs.Meanings.Exactly.{◌∈◌, Once, Enumerates}
 use Rattle.ground.specs.Meanings.Group.{at, mul, Member, move, Image}
-use Rattle.ground.specs.Laws.Enumerations.{enum_iff, enum_append, once_map}
-use Rattle.ground.specs.Laws.Permutations.{inv, perm_inv, at_mul_perm, at_inv_left, group}
-use Rattle.ground.specs.Laws.Members.{Perms, member_perm, member_mul, member_inv}
+use Rattle.ground.proofs.Laws.Enumerations.{enum_iff, enum_append, once_map}
+use Rattle.ground.specs.Laws.Permutations.{inv}
+use Rattle.ground.proofs.Laws.Permutations.{perm_inv, at_mul_perm, at_inv_left, group}
+use Rattle.ground.specs.Laws.Members.{Perms}
+use Rattle.ground.proofs.Laws.Members.{member_perm, member_mul, member_inv}
 use Rattle.ground.specs.Laws.Orbits.{Orbit}
 use Rattle.ground.specs.Laws.Schreier.{Stabiliser}
-use Rattle.ground.specs.Laws.Rows.{Below, move_mul, move_inj, image_below}
+use Rattle.ground.specs.Laws.Rows.{Below}
+use Rattle.ground.proofs.Laws.Rows.{move_mul, move_inj, image_below}
 
 module _ {k : ℕ} {G H : List ℕ → Type 0} {c : ℕ} {r : List ℕ} (P : Perms k G) (Q : Perms k H) (hc : c < k) (hr : Below k r) (S : Stabiliser k G c H)
     {M : List (List ℕ)} (E : Enumerates (Image k H r) M) where
