@@ -1,5 +1,7 @@
 // The swaps' section of a job sheet: its count, then as many swaps, each of k bytes. A swap must be a permutation, then keep each riser's
 // list, then keep each rule; it is entered into the table of swaps with the carriers from k on staying.
+#![tactic(auto)]
+
 ghost use Rattle.std.specs.Prelude.{◌≡◌, List, [], ℕ, ◌+◌, ◌≤◌, ◌<◌, length, take, drop};
 ghost use Rattle.ground.specs.Meanings.Sheet.{many, swap, most_carriers, most_swaps};
 ghost use Rattle.fields.specs.Tables.{is_listed, is_allowed, padded, put_swap, put_all};
