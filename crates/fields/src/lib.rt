@@ -16,21 +16,21 @@ ghost use Rattle.fields.specs.Sections.{section};
 use ground::{CARRIERS, Fault, LISTED, RISERS, SHEET_ENDS, WRONG_CARRIER, WRONG_COUNT};
 
 // A section was read, up to the place where the next one starts; or it is refused.
-#[derive(Drop)]
+#[derive(Clone, Copy)]
 pub enum Section {
     Read(usize),
     Refused(Fault),
 }
 
 // A number was read, and the place after it; or it is refused.
-#[derive(Drop)]
+#[derive(Clone, Copy)]
 pub enum Number {
     Read(usize, usize),
     Refused(Fault),
 }
 
 // Two numbers that are one field were read, and the place after them; or they are refused.
-#[derive(Drop)]
+#[derive(Clone, Copy)]
 pub enum Two {
     Read(usize, usize, usize),
     Refused(Fault),

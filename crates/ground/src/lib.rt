@@ -34,7 +34,7 @@ pub const ALLOWED: usize = RULES * PAIRS;
 pub const ENDS: usize = RISERS * RISERS;
 
 // What a refusal tells: its number, and the place that it is about. Number 0 at place 0 is no refusal.
-#[derive(Drop)]
+#[derive(Clone, Copy)]
 pub struct Fault {
     pub number: u8,
     pub place: usize,

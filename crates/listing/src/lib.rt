@@ -13,7 +13,7 @@ use sheet::Head;
 use tree::Limits;
 
 // The answer: the fault, or none; how many plans are listed, how many rows were opened, and how many plans there are.
-#[derive(Drop)]
+#[derive(Clone, Copy)]
 pub struct Answer {
     pub fault: Fault,
     pub listed: usize,

@@ -10,7 +10,7 @@ ghost use Rattle.ground.specs.Meanings.Sheet.{all_new};
 ghost use Rattle.ground.specs.Laws.Permutations.{inv};
 
 // A swap: entry c is the carrier that carrier c goes to.
-#[derive(Drop)]
+#[derive(Clone, Copy)]
 pub struct Swap {
     pub to: [u8; 15],
 }

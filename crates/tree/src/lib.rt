@@ -2,7 +2,7 @@
 
 // What stays the same through a search: how many carriers and risers there are, how many lines there is room for, and how many rows
 // may be opened.
-#[derive(Drop)]
+#[derive(Clone, Copy)]
 pub struct Limits {
     pub carriers: usize,
     pub risers: usize,
