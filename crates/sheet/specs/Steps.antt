@@ -88,7 +88,7 @@ module _ (s M T E M' T' E' : List ℕ) (G G' : List (List ℕ)) where
       (omega (arith, h.0), carriers_got s 0 (a.0 ∙ ap (λ (z : ℕ). tell_number (count 1 most_carriers s z)) h.1), same Blank a.1 a.2 a.3 a.4 h.2)
   goes_on Found.Nothing (Number.Refused x) p i a h = no_carriers s 0 (a.0 ∙ ap (λ (z : ℕ). tell_number (count 1 most_carriers s z)) h.1)
   goes_on (Found.Carriers k) (Number.Read n next) p i a h =
-      (omega (arith, h.0), risers_got s 0 h.1 M a.0 h.2.no_member refl, a.1 ∙ h.2.none_allowed, a.2 ∙ h.2.no_ends, a.3 ∙ h.2.All-stay)
+      (omega (arith, h.0), risers_got s 0 h.1 M a.0 h.2.no_member refl, a.1 ∙ h.2.none_allowed, a.2 ∙ h.2.no_ends, a.3 ∙ h.2.all_stay)
   goes_on (Found.Carriers k) (Number.Refused x) p i a h = no_risers s 0 h.1 M a.0 refl
   goes_on (Found.Risers k n) (Number.Read m next) p i a h =
       (omega (arith, h.0), subst (λ (z : List ℕ). GotRules s 0 k n m next z T' E') (sym a.1) (rules_got s 0 h.1 T E a.0 h.2 h.3 refl), a.2 ∙ h.4)
