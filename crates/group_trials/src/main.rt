@@ -1,11 +1,16 @@
 // Answers groups: for each group of the standard input one line, the orbit lengths along its chain.
 //
-// A group is one byte, the number of its swaps, and 15 bytes for each swap. A swap that is cut short is no permutation.
-ghost use Rattle.std.specs.Prelude.{◌≡◌, ◌≤◌, length};
+// A group is one byte, the number of its swaps, and 15 bytes for each swap. A swap that is cut short is no permutation. A read or a
+// write that fails ends the program with that error.
+#![tactic(auto)]
+
+ghost use Rattle.std.specs.Prelude.{◌≡◌, ◌≤◌, length, IfOk};
 
 use chain_lengths::{LAST, chain_lengths};
 use ground::CARRIERS;
-use libc::{STDIN_FILENO, STDOUT_FILENO};
+use std::io;
+use std::io::{Read, Write};
+use text::read_full;
 
 // What is no carrier.
 const NONE: u8 = CARRIERS as u8;
@@ -19,54 +24,58 @@ fn count_of_byte(byte: u8) -> usize
 }
 
 // Reads a swap; bytes that are missing are no carriers.
-fn read_swap() -> [u8; CARRIERS] {
+fn read_swap(input: &mut impl Read) -> io::Result<[u8; CARRIERS]> {
     let mut swap = [NONE; CARRIERS];
-    io::read_full(STDIN_FILENO, &mut swap);
-    swap
+    read_full(input, &mut swap)?;
+    Ok(swap)
 }
 
 // Reads this many swaps.
-fn read_swaps(count: usize) -> [[u8; CARRIERS]; 255]
+fn read_swaps(input: &mut impl Read, count: usize) -> io::Result<[[u8; CARRIERS]; 255]>
     requires { count ≤ 255 }
-    ensures { length result ≡ 255 }
+    ensures { IfOk result (λ swaps. length swaps ≡ 255) }
 {
     let mut swaps = [[NONE; CARRIERS]; 255];
     for i in 0..count {
-        swaps[i] = read_swap();
+        swaps[i] = read_swap(input)?;
     }
-    swaps
+    Ok(swaps)
 }
 
 // Writes the lengths with one space between two, and ends the line.
-fn write_lengths(lengths: [u8; CARRIERS]) {
+fn write_lengths(out: &mut impl Write, lengths: [u8; CARRIERS]) -> io::Result<()> {
     for c in 0..CARRIERS {
-        io::print_decimal(STDOUT_FILENO, lengths[c] as u64);
-        let after = if c < LAST { b' ' } else { b'\n' };
-        io::write_all(STDOUT_FILENO, &[after]);
+        let length = lengths[c];
+        let after = if c < LAST { ' ' } else { '\n' };
+        write!(out, "{length}{after}")?;
     }
+    Ok(())
 }
 
 // Reads a group and writes its line; whether there was one.
-fn answer_group() -> bool {
+fn answer_group(input: &mut impl Read, out: &mut impl Write) -> io::Result<bool> {
     let mut size = [0u8; 1];
-    if io::read_full(STDIN_FILENO, &mut size) == 0 {
-        return false;
+    if read_full(input, &mut size)? == 0 {
+        return Ok(false);
     }
     let count = count_of_byte(size[0]);
-    let swaps = read_swaps(count);
+    let swaps = read_swaps(input, count)?;
     let mut lengths = [0u8; CARRIERS];
     if chain_lengths(&swaps[..count], &mut lengths) {
-        write_lengths(lengths);
+        write_lengths(out, lengths)?;
     } else {
-        io::write_all(STDOUT_FILENO, b"no permutation\n");
+        out.write_all(b"no permutation\n")?;
     }
-    true
+    Ok(true)
 }
 
 // Answers groups while there are some.
-fn main() {
+fn main(rt: HostRuntime) -> io::Result<()> {
+    let mut input = rt.reader();
+    let mut out = io::writer(&rt);
     let mut turns = u64::MAX;
-    while turns > 0 && answer_group() {
+    while turns > 0 && answer_group(&mut input, &mut out)? {
         turns -= 1;
     }
+    Ok(())
 }

@@ -18,13 +18,19 @@
 // there may be several, but what it makes of the row, and then whether it is a permutation. A question of a kind that is not known is
 // answered `? no such kind`, and is the last, since nobody knows where the next begins.
 //
-// A further kind is a row above, a number below, an arm of `answer`, and a function like `listing_trial`.
-ghost use Rattle.std.specs.Prelude.{◌≤◌};
+// A further kind is a row above, a number below, an arm of `answer`, and a function like `listing_trial`. A read or a write that fails
+// ends the program with that error.
+#![tactic(auto)]
+
+ghost use Rattle.std.specs.Prelude.{◌≡◌, ◌<◌, ◌≤◌};
+ghost use Rattle.text.specs.Digits.{hex_digit_ascii};
 
 use folding::fold;
 use ground::{ACCEPTED, Fault, LONGEST};
 use listing::list;
-use text::{end_line, put, put_number};
+use std::io;
+use std::io::{Read, Write};
+use text::{end_line, put, put_number, read_full};
 
 // The kinds of questions.
 const LIST: u8 = 0;
@@ -53,51 +59,60 @@ const LINE: usize = 8192;
 const TURNS: usize = 100000;
 
 // Asks one question after another.
-fn main() {
+fn main(rt: HostRuntime) -> io::Result<()> {
+    let mut input = rt.reader();
+    let mut out = io::writer(&rt);
     let mut turns = TURNS;
     while 0 < turns {
-        if !trial() {
-            return;
+        if !trial(&mut input, &mut out)? {
+            return Ok(());
         }
         turns -= 1;
     }
+    Ok(())
 }
 
 // Asks the next question and prints its answer; false where there is no next one that can be asked.
-fn trial() -> bool {
+fn trial(input: &mut impl Read, out: &mut impl Write) -> io::Result<bool> {
     let mut head = [0u8; HEAD];
     let mut sheet = [0u8; SHEET];
-    if !read(&mut head, HEAD) {
-        return false;
+    if !read(input, &mut head, HEAD)? {
+        return Ok(false);
     }
     let length = two(head[2], head[3]);
-    if !read(&mut sheet, length) {
-        return false;
+    if !read(input, &mut sheet, length)? {
+        return Ok(false);
     }
-    answer(&head, start(&sheet, length))
+    answer(input, out, &head, start(&sheet, length))
 }
 
 // Asks a question of the kind that its head says, and prints its answer; false where it is not whole, or of a kind that is not known.
-fn answer(head: &[u8; HEAD], sheet: &[u8]) -> bool {
+fn answer(
+    input: &mut impl Read,
+    out: &mut impl Write,
+    head: &[u8; HEAD],
+    sheet: &[u8],
+) -> io::Result<bool> {
     match head[0] {
-        LIST => listing_trial(head, sheet),
-        FOLD => folding_trial(head, sheet),
-        _ => unknown(),
+        LIST => listing_trial(out, head, sheet),
+        FOLD => folding_trial(input, out, head, sheet),
+        _ => unknown(out),
     }
 }
 
 // Says that a kind is not known.
-fn unknown() -> bool {
-    io::write_all(1, b"? no such kind\n");
-    false
+fn unknown(out: &mut impl Write) -> io::Result<bool> {
+    out.write_all(b"? no such kind\n")?;
+    Ok(false)
 }
 
 // Reads so many bytes into the start of a list; false where fewer are left, or the list is too short.
-fn read(list: &mut [u8], length: usize) -> bool {
+fn read(input: &mut impl Read, list: &mut [u8], length: usize) -> io::Result<bool> {
     if list.len() < length {
-        return false;
+        return Ok(false);
     }
-    io::read_full(0, &mut list[0..length]) == length
+    let count = read_full(input, &mut list[0..length])?;
+    Ok(count == length)
 }
 
 // So many bytes from the start of a list, or the whole list where it is shorter.
@@ -110,63 +125,81 @@ fn start(list: &[u8], length: usize) -> &[u8] {
 }
 
 // Lists the sheet as the head says, and prints the answer.
-fn listing_trial(head: &[u8; HEAD], sheet: &[u8]) -> bool {
+fn listing_trial(out: &mut impl Write, head: &[u8; HEAD], sheet: &[u8]) -> io::Result<bool> {
     let mut bytes = [0u8; BYTES];
     let mut sizes = [0u64; SIZES];
     let first = two(head[4], head[5]);
     let second = two(head[6], head[7]);
     if BYTES < first {
-        return false;
+        return Ok(false);
     }
     if SIZES < second {
-        return false;
+        return Ok(false);
     }
     fill_bytes(&mut bytes, head[1]);
     fill_sizes(&mut sizes, head[1]);
     print_listing(
+        out,
         sheet,
         eight(head),
         &mut bytes[0..first],
         &mut sizes[0..second],
-    );
-    true
+    )?;
+    Ok(true)
 }
 
 // Reads the row that comes next, folds it as the head says, and prints the answer.
-fn folding_trial(head: &[u8; HEAD], sheet: &[u8]) -> bool {
+fn folding_trial(
+    input: &mut impl Read,
+    out: &mut impl Write,
+    head: &[u8; HEAD],
+    sheet: &[u8],
+) -> io::Result<bool> {
     let mut row = [0u8; ROW];
     let length = two(head[8], head[9]);
-    if !read(&mut row, length) {
-        return false;
+    if !read(input, &mut row, length)? {
+        return Ok(false);
     }
-    row_trial(head, sheet, start(&row, length))
+    row_trial(out, head, sheet, start(&row, length))
 }
 
 // Folds a row as the head says, and prints the answer.
-fn row_trial(head: &[u8; HEAD], sheet: &[u8], row: &[u8]) -> bool {
+fn row_trial(
+    out: &mut impl Write,
+    head: &[u8; HEAD],
+    sheet: &[u8],
+    row: &[u8],
+) -> io::Result<bool> {
     let mut first = [0u8; BYTES];
     let mut member = [0u8; BYTES];
     let first_length = two(head[4], head[5]);
     let member_length = two(head[6], head[7]);
     if BYTES < first_length {
-        return false;
+        return Ok(false);
     }
     if BYTES < member_length {
-        return false;
+        return Ok(false);
     }
     fill_bytes(&mut first, head[1]);
     fill_bytes(&mut member, head[1]);
     print_folding(
+        out,
         sheet,
         row,
         &mut first[0..first_length],
         &mut member[0..member_length],
-    );
-    true
+    )?;
+    Ok(true)
 }
 
 // Lists the sheet, and prints the answer with both lists as they are then.
-fn print_listing(sheet: &[u8], allowance: u64, bytes: &mut [u8], sizes: &mut [u64]) {
+fn print_listing(
+    out: &mut impl Write,
+    sheet: &[u8],
+    allowance: u64,
+    bytes: &mut [u8],
+    sizes: &mut [u64],
+) -> io::Result<()> {
     let answer = list(sheet, allowance, bytes, sizes);
     let mut line = [0u8; LINE];
     let mut at = put_fault(&mut line, answer.fault);
@@ -175,19 +208,28 @@ fn print_listing(sheet: &[u8], allowance: u64, bytes: &mut [u8], sizes: &mut [u6
     at = put_next(&mut line, at, answer.total);
     at = put_bytes(&mut line, at, bytes);
     at = put_sizes(&mut line, at, sizes);
-    end_line(&mut line, at, LINE);
+    end_line(out, &mut line, at, LINE)?;
+    Ok(())
 }
 
 // Folds the row, and prints the answer with the first buffer as it is then.
-fn print_folding(sheet: &[u8], row: &[u8], first: &mut [u8], member: &mut [u8]) {
+fn print_folding(
+    out: &mut impl Write,
+    sheet: &[u8],
+    row: &[u8],
+    first: &mut [u8],
+    member: &mut [u8],
+) -> io::Result<()> {
     let answer = fold(sheet, row, first, member);
     let mut line = [0u8; LINE];
     let fault = answer.fault;
+    let number = fault.number;
     let mut at = put_fault(&mut line, fault);
     at = put_next(&mut line, at, answer.size);
     at = put_bytes(&mut line, at, first);
-    at = put_member(&mut line, at, member, row, fault.number);
-    end_line(&mut line, at, LINE);
+    at = put_member(&mut line, at, member, row, number);
+    end_line(out, &mut line, at, LINE)?;
+    Ok(())
 }
 
 // A byte as an index.
@@ -223,7 +265,7 @@ fn fill_bytes(bytes: &mut [u8], from: u8) {
     let mut byte = from;
     for i in 0..bytes.len() {
         bytes[i] = byte;
-        byte = std::num::wrapping_add_u8(byte, 37);
+        byte = byte.wrapping_add(37);
     }
 }
 
@@ -232,7 +274,7 @@ fn fill_sizes(sizes: &mut [u64], from: u8) {
     let mut size = number(from);
     for i in 0..sizes.len() {
         sizes[i] = size;
-        size = std::num::wrapping_add_u64(size, 11400714819323198485);
+        size = size.wrapping_add(11400714819323198485);
     }
 }
 
@@ -250,9 +292,15 @@ fn put_next(line: &mut [u8], at: usize, n: u64) -> usize {
 
 // Puts a byte into the line, in hex.
 fn put_byte(line: &mut [u8], at: usize, byte: u8) -> usize {
-    let mut digits = [0u8; 16];
-    let count = io::hex(number(byte), 2, &mut digits);
-    put(line, at, &digits[..count])
+    put(line, at, &[hex_digit(byte / 16), hex_digit(byte % 16)])
+}
+
+// A number below 16 as a digit in hex.
+fn hex_digit(n: u8) -> u8
+    requires { n < 16 }
+    ensures { result ≡ hex_digit_ascii n }
+{
+    if n < 10 { b'0' + n } else { b'a' - 10 + n }
 }
 
 // Puts a space and some bytes into the line.

@@ -1,21 +1,24 @@
 // The folds of examples/README.md that are worked by hand, K, L and M, and a fold for each kind of refusal.
 //
 // A line has the number, the place and the size that folding answers, then the first buffer and the second as they are after the
-// call. Before the first call both are full of 255.
-use libc::STDOUT_FILENO;
+// call. Before the first call both are full of 255. A write that fails ends the program with that error.
+#![tactic(auto)]
+
+use std::io;
+use std::io::Write;
 
 // Prints a space and the number.
-fn print_number(n: u64) {
-    io::write_all(STDOUT_FILENO, b" ");
-    io::print_decimal(STDOUT_FILENO, n);
+fn print_number(out: &mut impl Write, n: u64) -> io::Result<()> {
+    write!(out, " {n}")
 }
 
 // Prints a colon, and each carrier after a space.
-fn print_carriers(row: &[u8]) {
-    io::write_all(STDOUT_FILENO, b" :");
+fn print_carriers(out: &mut impl Write, row: &[u8]) -> io::Result<()> {
+    out.write_all(b" :")?;
     for i in 0..row.len() {
-        print_number(wide(row[i]));
+        print_number(out, wide(row[i]))?;
     }
+    Ok(())
 }
 
 // A carrier as a number to print.
@@ -24,20 +27,28 @@ fn wide(carrier: u8) -> u64 {
 }
 
 // Folds the row and prints what is left.
-fn print_fold(sheet: &[u8], row: &[u8], first: &mut [u8], member: &mut [u8]) {
+fn print_fold(
+    out: &mut impl Write,
+    sheet: &[u8],
+    row: &[u8],
+    first: &mut [u8],
+    member: &mut [u8],
+) -> io::Result<()> {
     let answer = folding::fold(sheet, row, first, member);
     let fault = answer.fault;
-    io::print_decimal(STDOUT_FILENO, wide(fault.number));
-    print_number(fault.place as u64);
-    print_number(answer.size);
-    print_carriers(first);
-    print_carriers(member);
-    io::write_all(STDOUT_FILENO, b"\n");
+    let number = wide(fault.number);
+    write!(out, "{number}")?;
+    print_number(out, fault.place as u64)?;
+    print_number(out, answer.size)?;
+    print_carriers(out, first)?;
+    print_carriers(out, member)?;
+    out.write_all(b"\n")
 }
 
 // Sheet A is two risers that must differ, and three carriers that are all alike; D is the same with the one swap 1 2 0; in F the
 // swap takes the riser's list out of itself.
-fn main() {
+fn main(rt: HostRuntime) -> io::Result<()> {
+    let mut out = io::writer(&rt);
     let alike =
         b"\x03\x02\x03\x00\x01\x02\x03\x00\x01\x02\x01\x00\x01\x06\x00\x01\x00\x02\x01\x00\x01\x02\x02\x00\x02\x01\x02\x01\x00\x02\x01\x02\x00";
     let turned =
@@ -47,13 +58,14 @@ fn main() {
     let mut member = [255u8; 3];
     let mut short = [255u8; 1];
     // refused: a sheet by 7; rows by 12, the first though a buffer is short too; buffers by 13
-    print_fold(unkept, &[0], &mut short, &mut first);
-    print_fold(alike, &[2], &mut short, &mut member);
-    print_fold(alike, &[2, 3], &mut first, &mut member);
-    print_fold(alike, &[2, 0], &mut short, &mut member);
-    print_fold(alike, &[2, 0], &mut first, &mut short);
+    print_fold(&mut out, unkept, &[0], &mut short, &mut first)?;
+    print_fold(&mut out, alike, &[2], &mut short, &mut member)?;
+    print_fold(&mut out, alike, &[2, 3], &mut first, &mut member)?;
+    print_fold(&mut out, alike, &[2, 0], &mut short, &mut member)?;
+    print_fold(&mut out, alike, &[2, 0], &mut first, &mut short)?;
     // accepted: K, L and M
-    print_fold(alike, &[2, 0], &mut first, &mut member);
-    print_fold(alike, &[2, 2], &mut first, &mut member);
-    print_fold(turned, &[1, 0], &mut first, &mut member);
+    print_fold(&mut out, alike, &[2, 0], &mut first, &mut member)?;
+    print_fold(&mut out, alike, &[2, 2], &mut first, &mut member)?;
+    print_fold(&mut out, turned, &[1, 0], &mut first, &mut member)?;
+    Ok(())
 }

@@ -1,0 +1,18 @@
+-- A number as text.
+--
+--   hex_digit_ascii d            the code of a digit below 16, `0` to `9` and then `a` to `f`
+--   last_digits b k n            the last k digits of n in base b, the most significant first
+--   IsDigitCount b width n k     n takes k digits in base b, where it has at least so many as width
+--
+-- These are definitions: nothing is assumed or proved here.
+use Rattle.std.specs.Prelude.{ℕ, zero, suc, ◌+◌, ◌-◌, ◌/◌, ◌%◌, ◌^◌, ◌<◌, ◌≤◌, cond, List, [], ◌∷◌, ◌++◌, nat_lt}
+
+abbrev pub hex_digit_ascii : ℕ → ℕ
+hex_digit_ascii d = cond (nat_lt d 10) (48 + d) (87 + d)
+
+abbrev pub last_digits : ℕ → ℕ → ℕ → List ℕ
+last_digits b zero n = []
+last_digits b (suc k) n = last_digits b k (n / b) ++ (hex_digit_ascii (n % b) ∷ [])
+
+abbrev pub IsDigitCount : ℕ → ℕ → ℕ → ℕ → Type 0
+IsDigitCount b width n k = (width ≤ k) × (n < b ^ k) × (width < k → b ^ (k - 1) ≤ n)
