@@ -9,7 +9,7 @@
 --
 -- The j-th rule that ends at riser d is at d · 12 + j, and its mask for carrier u of the other riser at (d · 12 + j) · 15 + u.
 -- These are definitions: nothing is assumed or proved here.
-use Rattle.std.specs.Prelude.{◌≡◌, List, ℕ, ◌+◌, ◌*◌, ◌≤◌, ◌<◌, length}
+use Rattle.std.specs.Prelude.{List, ℕ, ◌+◌, ◌*◌, ◌≤◌, ◌<◌, length}
 use Rattle.ground.specs.Meanings.Group.{at}
 use Rattle.ground.specs.Meanings.Sheet.{most_carriers, most_risers}
 use Rattle.ground.specs.Laws.Rows.{Below}

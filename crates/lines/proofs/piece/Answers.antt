@@ -1,25 +1,14 @@
 use mathlib.Core.Path.{◌∙◌}
 use mathlib.Core.List.{append-nil}
-use Prim.Native.Nat.{◌-◌}
 use native.Mathlib.Nat.{zero-add}
 use native.Mathlib.Omega.{arith}
-use lib.ListN.{drop, length-drop}
+use lib.ListN.{length-drop}
 use lib.Seq.{get_or-drop}
-use Rattle.ground.specs.Laws.Copying.{Copying}
 use Rattle.ground.proofs.Laws.Copying.{copying_start, copying_more, copying_end}
 use Rattle.lines.proofs.piece.Goals as goal
 
 pub loop-i-init : goal.loop-i-init
 loop-i-init c = copying_start
-
-pub bounds-row-from : goal.bounds-row-from
-bounds-row-from c = omega (arith, c.loop-i-test.true, c.requires.0)
-
-pub bounds-four-i : goal.bounds-four-i
-bounds-four-i c = c.loop-i-test.true
-
-pub loop-i-smaller : goal.loop-i-smaller
-loop-i-smaller c = omega (arith, c.loop-i-test.true)
 
 pub loop-i-preserved : goal.loop-i-preserved
 loop-i-preserved c =

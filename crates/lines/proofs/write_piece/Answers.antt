@@ -1,20 +1,9 @@
-use Prim.Native.Nat.{◌-◌}
 use native.Mathlib.Omega.{arith}
-use Rattle.ground.specs.Laws.Copying.{Copying}
 use Rattle.ground.proofs.Laws.Copying.{copying_start, copying_more, copying_end}
 use Rattle.lines.proofs.write_piece.Goals as goal
 
 pub loop-i-init : goal.loop-i-init
 loop-i-init c = copying_start
-
-pub bounds-four-i : goal.bounds-four-i
-bounds-four-i c = c.loop-i-test.true
-
-pub bounds-rows-at : goal.bounds-rows-at
-bounds-rows-at c = omega (arith, c.loop-i-test.true, c.requires, c.loop-i.invariant.long)
-
-pub loop-i-smaller : goal.loop-i-smaller
-loop-i-smaller c = omega (arith, c.loop-i-test.true)
 
 pub loop-i-preserved : goal.loop-i-preserved
 loop-i-preserved c = copying_more c.loop-i.invariant 0 c.loop-i-test.true (omega arith) c.requires

@@ -1,9 +1,6 @@
 -- `write_piece` meets its contract. The loop copies one entry a turn, which is a turn of `Copying`.
 -- Assumes nothing.
-use Prim.Native.Nat.{◌-◌}
-use native.Mathlib.Omega.{arith}
 use Rattle.ground.specs.Laws.Copying.{Copying}
-use Rattle.ground.proofs.Laws.Copying.{copying_start, copying_more, copying_end}
 use Rattle.lines.proofs.write_piece.Given as goal
 
 abbrev pub invariant-loop-i : goal.invariant-loop-i

@@ -1,5 +1,5 @@
 use mathlib.Core.Path.{◌≡◌}
-use Prim.Native.Nat.{ℕ, ◌+◌, ◌*◌, ◌≤◌, ◌<◌, ◌-◌}
+use Prim.Native.Nat.{◌+◌, ◌*◌, ◌<◌}
 use native.Mathlib.Omega.{arith}
 use lib.ListN.{length, take}
 use lib.Seq.{length-take-le}
@@ -8,23 +8,8 @@ use Rattle.rules.specs.Books.{book}
 use Rattle.rules.specs.Narrowing.{Askable, Narrowed, narrowed_start, narrowed_askable, narrowed_asked, narrowed_whole, narrowed_none}
 use Rattle.rules.proofs.standing.Goals as goal
 
-pub bounds-lists-d : goal.bounds-lists-d
-bounds-lists-d c = c.requires.d_lt_most_risers.0
-
-pub bounds-counts-d : goal.bounds-counts-d
-bounds-counts-d c = c.requires.d_lt_most_risers.0
-
-pub overflow_add-last : goal.overflow_add-last
-overflow_add-last c = omega (arith, c.wide.ensures, c.requires.orderly.few, c.requires.d_lt_most_risers.0)
-
 pub carriers-init : goal.carriers-init
 carriers-init c = narrowed_start (take c.args.d c.args.row.now) c.both-open.ensures
-
-pub first-c-requires : goal.first-c-requires
-first-c-requires c = omega (arith, c.carriers-test.true)
-
-pub loop-rule-init : goal.loop-rule-init
-loop-rule-init c = (c.carriers.invariant, omega arith)
 
 pub left_by-left-requires : goal.left_by-left-requires
 left_by-left-requires c =
@@ -32,26 +17,11 @@ left_by-left-requires c =
     let askable : Askable c.args.others.now c.args.row.now c.loop-rule.rule = narrowed_askable c.args.row.now c.requires.orderly c.loop-rule.invariant.0 more c.requires.d_lt_most_risers.0 c.requires.d_lt_most_risers.1 c.requires.d_lt_most_risers.2 in
     askable
 
-pub overflow_add-rule : goal.overflow_add-rule
-overflow_add-rule c =
-    let more : c.loop-rule.rule < c.args.d * 12 + at c.args.counts.now c.args.d = omega (arith, c.loop-rule-test.true, c.wide.ensures) in
-    let askable : Askable c.args.others.now c.args.row.now c.loop-rule.rule = narrowed_askable c.args.row.now c.requires.orderly c.loop-rule.invariant.0 more c.requires.d_lt_most_risers.0 c.requires.d_lt_most_risers.1 c.requires.d_lt_most_risers.2 in
-    omega (arith, askable.place)
-
-pub has-requires : goal.has-requires
-has-requires c = c.first-c.ensures.below
-
-pub carriers-smaller : goal.carriers-smaller
-carriers-smaller c = omega (arith, c.loop-rule.invariant.1, c.loop-rule-test.true)
-
 pub carriers-preserved : goal.carriers-preserved
 carriers-preserved c =
     let more : c.loop-rule.rule < c.args.d * 12 + at c.args.counts.now c.args.d = omega (arith, c.loop-rule-test.true, c.wide.ensures) in
     let narrower : Narrowed (book c.args.lists.now c.args.counts.now c.args.others.now c.args.masks.now) c.args.d (take c.args.d c.args.row.now) c.args.least (c.loop-rule.rule + 1) c.both-open-in-loop-rule.result = narrowed_asked c.args.row.now c.requires.orderly c.loop-rule.invariant.0 more c.left_by-left.ensures c.both-open-in-loop-rule.ensures in
     narrower
-
-pub loop-rule-smaller : goal.loop-rule-smaller
-loop-rule-smaller c = omega (arith, c.loop-rule-test.true)
 
 pub loop-rule-preserved : goal.loop-rule-preserved
 loop-rule-preserved c =

@@ -1,14 +1,10 @@
 -- `standing` meets its contract. At the head of both loops the carriers that are left are those that go with the rules before the next
 -- one (`Narrowed`), whichever carrier is looked at; a turn asks one rule more.
 -- Assumes nothing.
-use mathlib.Core.Path.{◌≡◌}
-use Prim.Native.Nat.{ℕ, ◌+◌, ◌*◌, ◌≤◌, ◌<◌, ◌-◌}
-use native.Mathlib.Omega.{arith}
-use lib.ListN.{length, take}
-use lib.Seq.{length-take-le}
-use Rattle.ground.specs.Meanings.Group.{at}
+use Prim.Native.Nat.{◌≤◌, ◌-◌}
+use lib.ListN.{take}
 use Rattle.rules.specs.Books.{book}
-use Rattle.rules.specs.Narrowing.{Askable, Narrowed, narrowed_start, narrowed_askable, narrowed_asked, narrowed_whole, narrowed_none}
+use Rattle.rules.specs.Narrowing.{Narrowed}
 use Rattle.rules.proofs.standing.Given as goal
 
 abbrev pub invariant-loop-rule : goal.invariant-loop-rule

@@ -1,9 +1,7 @@
 -- `write_masks` meets its contract. The masks of the carriers passed are written (`Masked`), and a turn writes the next one.
 -- Assumes nothing.
-use Prim.Native.Nat.{◌≤◌, ◌<◌, ◌+◌, ◌*◌, ◌-◌}
-use native.Mathlib.Omega.{arith}
-use lib.ListN.{length}
-use Rattle.rules.specs.Writing.{Masked, masked_start, masked_more, masked_end}
+use Prim.Native.Nat.{◌≤◌}
+use Rattle.rules.specs.Writing.{Masked}
 use Rattle.rules.proofs.write_masks.Given as goal
 
 abbrev pub invariant-loop-u : goal.invariant-loop-u

@@ -1,12 +1,8 @@
 -- `write_rules` meets its contract. The rules that start at the risers passed are written (`Written`), and a turn writes the one that
 -- starts at the next riser, if there is one.
 -- Assumes nothing.
-use mathlib.Core.Path.{◌∙◌}
-use mathlib.Core.Logic.{⊎_elim}
-use Prim.Native.Nat.{◌≤◌, ◌<◌, ◌+◌, ◌*◌, ◌-◌}
-use native.Mathlib.Omega.{arith}
-use lib.ListN.{length}
-use Rattle.rules.specs.Writing.{Written, written_start, written_none, written_more, written_end}
+use Prim.Native.Nat.{◌≤◌}
+use Rattle.rules.specs.Writing.{Written}
 use Rattle.rules.proofs.write_rules.Given as goal
 
 abbrev pub invariant-loop-e : goal.invariant-loop-e
