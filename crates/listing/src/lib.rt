@@ -2,6 +2,8 @@
 //
 // The sheet is read once, its tables are searched, and what the search wrote stands, unless the allowance or the room was not
 // enough: then both lists are filled over. The promise is the meaning itself: `Lists` of ground's Meanings/Listing.antt.
+#![tactic(auto)]
+
 ghost use Rattle.std.specs.Prelude.{◌≡◌, ◌/◌, ◌<◌, min};
 ghost use Rattle.ground.specs.Meanings.Listing.{Lists, left, filled};
 ghost use Rattle.last.specs.Last.{state_of};
