@@ -16,7 +16,7 @@ sources() (
     {
         rt version
         cat crates.txt
-        find "$@" -type f \( -name '*.rt' -o -name '*.antt' -o -name '*.rs' -o -name '*.c' -o -name '*.h' -o -name '*.a' \) -exec sha256sum {} + | sort
+        find "$@" -name out -prune -o -type f \( -name '*.rt' -o -name '*.antt' -o -name '*.rs' -o -name '*.c' -o -name '*.h' -o -name '*.a' \) -exec sha256sum {} + | sort
     } | sha256sum
 )
 
@@ -59,7 +59,7 @@ built() {
     alone
     if ! current "$file" "$@"; then
         case $command in
-        rt\ *) say "proves and builds $file, which takes minutes from nothing; target/client/log says how far it is" ;;
+        client/make\ *) say "proves and builds $file, which takes minutes from nothing; target/client/log says how far it is" ;;
         *) say "builds $file" ;;
         esac
         if ! remake "$file" "$command" "$@" >"$client/log" 2>&1 </dev/null 9>&-; then
@@ -71,6 +71,6 @@ built() {
     exec 9>&-
 }
 
-library() { built "$archive" "rt staticlib saucewagon_c" crates; }
+library() { built "$archive" "client/make staticlib saucewagon_c" crates; }
 
-program() { built "$planner" "rt check saucewagon" crates; }
+program() { built "$planner" "client/make bin saucewagon" crates; }

@@ -1,4 +1,4 @@
-/* The planner for C: link target/staticlib/libsaucewagon_c.a, which `rt staticlib saucewagon_c` proves and writes.
+/* The planner for C: link target/staticlib/libsaucewagon_c.a, which `client/make staticlib saucewagon_c` proves and writes.
  *
  * A job sheet is a run of bytes: carriers, risers with their lists, rules between two risers, swaps of carriers; docs/SHEET.md has the
  * layout. Every call takes any bytes at all, tests them, and returns SAUCEWAGON_ACCEPTED or the number of a refusal.

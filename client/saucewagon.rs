@@ -1,4 +1,4 @@
-//! The planner for Rust: safe calls over the proved library that `rt staticlib saucewagon_c` writes to `target/staticlib`.
+//! The planner for Rust: safe calls over the proved library that `client/make staticlib saucewagon_c` writes to `target/staticlib`.
 //!
 //! A job sheet is a run of bytes; every call takes any bytes at all and tests them. Its answer has the number `ACCEPTED`, or that of
 //! a refusal, and the place of the fault in the sheet for the numbers 1 to 9. `docs/SHEET.md` has the layout of a sheet, and says what
