@@ -1,6 +1,5 @@
 -- `count_at` answers what the definition says of a count. The number under one more than the most is the count.
 -- Assumes nothing.
-use borrow.Author.Rules.{rules}
 use mathlib.Core.Path.{ap, ◌∙◌}
 use Rattle.fields.specs.Answers.{tell_number}
 use Rattle.fields.specs.Fields.{count_is}

@@ -1,6 +1,5 @@
 -- `is_listed` answers what the table says. Past the last riser or the last carrier there is no entry, and the answer is no.
 -- Assumes nothing.
-use borrow.Author.Rules.{rules}
 use Rattle.fields.specs.Risers.{listed_in, listed_no_carrier, listed_no_riser}
 use Rattle.fields.proofs.is_listed.Goals as goal
 

@@ -1,7 +1,5 @@
 -- `number_at` answers what the definition says of a byte in bounds. Each return is one case of the test, and the byte is the slice's own.
 -- Assumes nothing.
-use borrow.Author.Rules.{rules}
-use native.Mathlib.Omega.{arith}
 use Rattle.fields.specs.Fields.{number_short, number_low, number_high, number_is}
 use Rattle.fields.proofs.number_at.Goals as goal
 

@@ -1,8 +1,5 @@
-use borrow.Author.Rules.{rules}
 use native.Mathlib.Omega.{arith}
-use Prim.Native.Nat.{◌-◌}
-use mathlib.Core.Path.{sym, ◌∙◌}
-use Rattle.fields.specs.Risers.{ListSoFar, list_starts, list_more, list_refused, list_ends}
+use Rattle.fields.specs.Risers.{list_starts, list_more, list_refused, list_ends}
 use Rattle.fields.specs.Fields.{number_bound}
 use Rattle.fields.proofs.read_list.Goals as goal
 

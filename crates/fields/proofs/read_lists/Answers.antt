@@ -1,7 +1,5 @@
-use Rattle.fields.specs.Risers.{RisersSoFar, risers_start, risers_more, risers_refused, risers_end}
-use Prim.Native.Nat.{◌-◌}
+use Rattle.fields.specs.Risers.{risers_start, risers_more, risers_refused, risers_end}
 use native.Mathlib.Omega.{arith}
-use borrow.Author.Rules.{rules}
 use Rattle.fields.proofs.read_lists.Goals as goal
 
 pub loop-r-init : goal.loop-r-init

@@ -1,9 +1,6 @@
 -- `read_lists` answers what the definition says of all risers. The loop keeps: the first r lists are read, and the table has them.
 -- Assumes nothing.
-use Rattle.fields.specs.Risers.{RisersSoFar, risers_start, risers_more, risers_refused, risers_end}
-use Prim.Native.Nat.{◌-◌}
-use native.Mathlib.Omega.{arith}
-use borrow.Author.Rules.{rules}
+use Rattle.fields.specs.Risers.{RisersSoFar}
 use Rattle.fields.proofs.read_lists.Given as goal
 
 abbrev pub invariant-loop-r : goal.invariant-loop-r

@@ -1,8 +1,5 @@
 -- `read_riser` answers what the definition says of a riser. It is the count, and then the list that the count asks for.
 -- Assumes nothing.
-use borrow.Author.Rules.{rules}
-use mathlib.Core.Path.{sym, ◌∙◌}
-use native.Mathlib.Omega.{arith}
 use Rattle.fields.specs.Risers.{riser_refused, riser_read}
 use Rattle.fields.proofs.read_riser.Goals as goal
 

@@ -1,7 +1,5 @@
 -- `two_at` answers what the definition says of two bytes that are one field. Where either is missing the field is refused at its first byte.
 -- Assumes nothing.
-use borrow.Author.Rules.{rules}
-use Prim.Native.Nat.{◌+◌}
 use native.Mathlib.Omega.{arith}
 use Rattle.fields.specs.Fields.{two_short, two_is}
 use Rattle.fields.proofs.two_at.Goals as goal

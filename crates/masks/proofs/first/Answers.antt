@@ -1,6 +1,4 @@
 -- `first` gives the least carrier of the mask: as many as there are zeros below the lowest digit that is set.
-use native.Mathlib.Omega.{arith}
-use lib.Count.{trailing_le}
 use Rattle.masks.specs.Masks.{least_trailing}
 use Rattle.masks.proofs.first.Goals as goal
 

@@ -1,5 +1,4 @@
 -- `has` answers whether the mask has the carrier: the digit that it tests is the one that the definition reads.
-use native.Mathlib.Omega.{arith}
 use Rattle.masks.specs.Masks.{tells_bit}
 use Rattle.masks.proofs.has.Goals as goal
 

@@ -1,7 +1,5 @@
-use Prim.Native.Nat.{◌≤◌, ◌-◌}
-use mathlib.Core.Logic.{⊎_elim}
 use native.Mathlib.Omega.{arith}
-use Rattle.masks.specs.Masks.{Marked, marked_none, marked_skip, marked_more, marked_end}
+use Rattle.masks.specs.Masks.{marked_none, marked_skip, marked_more, marked_end}
 use Rattle.masks.proofs.marked.Goals as goal
 use Rattle.masks.proofs.marked.Goals.{then-table-at-ne0, else-table-at-ne0}
 
@@ -10,8 +8,7 @@ loop-c-init c = (omega arith, marked_none _ _)
 
 pub loop-c-preserved : goal.loop-c-preserved
 loop-c-preserved c =
-    let inv = c.loop-c.invariant.1 in
-    (
+    let inv = c.loop-c.invariant.1 in (
       omega arith,
       elim c.if-table-at-ne0.branch [
         | then-table-at-ne0 w ↦ rw w.mask-is (marked_more inv w.with-mask.ensures w.if-table-at-ne0.true)

@@ -1,9 +1,7 @@
 -- `marked` gives the carriers below k whose entry is not 0. The mask has those of the entries passed, and a turn adds the next
 -- carrier where its entry is not 0.
-use Prim.Native.Nat.{◌≤◌, ◌-◌}
-use mathlib.Core.Logic.{⊎_elim}
-use native.Mathlib.Omega.{arith}
-use Rattle.masks.specs.Masks.{Marked, marked_none, marked_skip, marked_more, marked_end}
+use Prim.Native.Nat.{◌≤◌}
+use Rattle.masks.specs.Masks.{Marked}
 use Rattle.masks.proofs.marked.Given as goal
 
 abbrev pub invariant-loop-c : goal.invariant-loop-c

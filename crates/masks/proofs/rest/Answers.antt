@@ -1,5 +1,4 @@
 -- `rest` gives the carriers after the least one: a mask and the number before it share the digits above the lowest that is set.
-use native.Mathlib.Omega.{arith}
 use Rattle.masks.specs.Masks.{rest_and}
 use Rattle.masks.proofs.rest.Goals as goal
 

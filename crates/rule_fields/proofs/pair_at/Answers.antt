@@ -4,7 +4,6 @@ use Rattle.rule_fields.specs.Rules.{pair_short, pair_fails, pair_early, pair_is,
 use Rattle.fields.specs.Risers.{listed_small}
 use mathlib.Core.Path.{sym, ◌∙◌}
 use native.Mathlib.Omega.{arith}
-use borrow.Author.Rules.{rules}
 use Rattle.rule_fields.proofs.pair_at.Goals as goal
 
 pub overflow_mul-key : goal.overflow_mul-key

@@ -1,8 +1,5 @@
-use Rattle.rule_fields.specs.Rules.{PairsSoFar, pairs_start, pairs_more, pairs_refused, pairs_end, pair_passed, both_left, both_right}
-use Prim.Native.Nat.{◌-◌}
-use mathlib.Core.Path.{sym, ◌∙◌}
+use Rattle.rule_fields.specs.Rules.{pairs_start, pairs_more, pairs_refused, pairs_end, pair_passed, both_left, both_right}
 use native.Mathlib.Omega.{arith}
-use borrow.Author.Rules.{rules}
 use Rattle.rule_fields.proofs.read_pairs.Goals as goal
 
 pub loop-i-init : goal.loop-i-init

@@ -1,10 +1,6 @@
 -- `read_pairs` answers what the definition says of a rule's pairs. The loop keeps: i pairs are read and entered, and `least` is one more than the key of the last.
 -- Assumes nothing.
-use Rattle.rule_fields.specs.Rules.{PairsSoFar, pairs_start, pairs_more, pairs_refused, pairs_end, pair_passed, both_left, both_right}
-use Prim.Native.Nat.{◌-◌}
-use mathlib.Core.Path.{sym, ◌∙◌}
-use native.Mathlib.Omega.{arith}
-use borrow.Author.Rules.{rules}
+use Rattle.rule_fields.specs.Rules.{PairsSoFar}
 use Rattle.rule_fields.proofs.read_pairs.Given as goal
 
 abbrev pub invariant-loop-i : goal.invariant-loop-i

@@ -1,7 +1,6 @@
 -- `read_rule` answers what the definition says of a rule, and enters it. It is the two risers, the count, and then the pairs that the count asks for.
 -- Assumes nothing.
-use borrow.Author.Rules.{rules}
-use mathlib.Core.Path.{refl, sym, ◌∙◌}
+use mathlib.Core.Path.{refl}
 use native.Mathlib.Omega.{arith}
 use Rattle.rule_fields.specs.Rules.{risers_ordered, rule_no_risers, rule_no_count, rule_no_pairs, rule_is}
 use Rattle.rule_fields.proofs.read_rule.Goals as goal

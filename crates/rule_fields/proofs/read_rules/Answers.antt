@@ -1,7 +1,5 @@
-use borrow.Author.Rules.{rules}
-use Prim.Native.Nat.{◌-◌}
 use native.Mathlib.Omega.{arith}
-use Rattle.rule_fields.specs.Rules.{RulesSoFar, rules_start, rules_more, rules_refused, rules_end, rule_ordered}
+use Rattle.rule_fields.specs.Rules.{rules_start, rules_more, rules_refused, rules_end, rule_ordered}
 use Rattle.rule_fields.proofs.read_rules.Goals as goal
 
 pub loop-q-init : goal.loop-q-init

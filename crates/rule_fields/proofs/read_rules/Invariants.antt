@@ -1,9 +1,6 @@
 -- `read_rules` answers what the definition says of all rules. The loop keeps: the first q rules are read and entered, and `least` is one more than the key of the last one's risers.
 -- Assumes nothing.
-use borrow.Author.Rules.{rules}
-use Prim.Native.Nat.{◌-◌}
-use native.Mathlib.Omega.{arith}
-use Rattle.rule_fields.specs.Rules.{RulesSoFar, rules_start, rules_more, rules_refused, rules_end, rule_ordered}
+use Rattle.rule_fields.specs.Rules.{RulesSoFar}
 use Rattle.rule_fields.proofs.read_rules.Given as goal
 
 abbrev pub invariant-loop-q : goal.invariant-loop-q

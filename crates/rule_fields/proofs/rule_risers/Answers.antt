@@ -1,7 +1,5 @@
 -- `rule_risers` answers what the definition says of a rule's two risers. Each test of the code is one part of the definition's test, in its order.
 -- Assumes nothing.
-use borrow.Author.Rules.{rules}
-use mathlib.Core.Path.{sym, ◌∙◌}
 use Rattle.rule_fields.specs.Rules.{pair_short, pair_fails, pair_early, pair_is, ordered_no_left, ordered_no_right, ordered_yes}
 use Rattle.rule_fields.proofs.rule_risers.Goals as goal
 

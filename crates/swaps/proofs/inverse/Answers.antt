@@ -1,8 +1,7 @@
 use mathlib.Core.Path.{refl}
 use native.Mathlib.Omega.{arith}
-use borrow.Author.Rules.{rules}
 use lib.ListN.{get_or-replicate}
-use Rattle.swaps.specs.Undoing.{Undone, undone_start, undone_stored, undone_left, undone_inverse}
+use Rattle.swaps.specs.Undoing.{undone_start, undone_stored, undone_left, undone_inverse}
 use Rattle.swaps.proofs.inverse.Goals as goal
 
 pub loop-i-init : goal.loop-i-init

@@ -1,7 +1,5 @@
-use Prim.Native.Nat.{◌-◌}
 use native.Mathlib.Omega.{arith}
-use lib.ListN.{length}
-use Rattle.swaps.specs.Marking.{Tested, tested_many, tested_start, tested_high, tested_again, tested_more, tested_end}
+use Rattle.swaps.specs.Marking.{tested_many, tested_start, tested_high, tested_again, tested_more, tested_end}
 use Rattle.swaps.proofs.is_permutation.Goals as goal
 
 pub returns-then-k-gt-WIDTH : goal.returns-then-k-gt-WIDTH

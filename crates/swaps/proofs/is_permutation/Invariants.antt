@@ -1,9 +1,6 @@
 -- `is_permutation` answers whether the bytes are a permutation of 0 to k − 1, for their number k, at most 15. Each byte that
 -- the loop passes is below k and unmarked, so that it is new, and the first that is not ends the test with no.
-use Prim.Native.Nat.{◌-◌}
-use native.Mathlib.Omega.{arith}
-use lib.ListN.{length}
-use Rattle.swaps.specs.Marking.{Tested, tested_many, tested_start, tested_high, tested_again, tested_more, tested_end}
+use Rattle.swaps.specs.Marking.{Tested}
 use Rattle.swaps.proofs.is_permutation.Given as goal
 
 abbrev pub invariant-loop-i : goal.invariant-loop-i

@@ -1,10 +1,7 @@
 use mathlib.Core.Path.{ap, ◌∙◌}
-use Prim.Native.Nat.{ℕ, ◌-◌}
 use native.Mathlib.Nat.{le_refl}
 use native.Mathlib.Omega.{arith}
-use lib.ListN.{length}
 use Rattle.ground.specs.Meanings.Group.{at}
-use Rattle.ground.specs.Laws.Filling.{Filled}
 use Rattle.ground.proofs.Laws.Filling.{filled_start, filled_more, filled_move}
 use Rattle.swaps.proofs.move_row.Goals as goal
 

@@ -1,11 +1,6 @@
 use mathlib.Core.Path.{◌≡◌, refl, sym, ◌∙◌}
-use mathlib.Core.Logic.{⊎_elim}
-use Prim.Native.Nat.{ℕ, ◌-◌}
 use native.Mathlib.Omega.{arith}
-use borrow.Author.Rules.{rules}
-use lib.ListN.{length, replicate, get_or-replicate, get_or-eq_default}
-use Rattle.ground.specs.Meanings.Group.{at}
-use Rattle.ground.specs.Laws.Filling.{Filled}
+use lib.ListN.{length, get_or-replicate, get_or-eq_default}
 use Rattle.ground.proofs.Laws.Filling.{filled_start, filled_more, filled_kept, filled_mul}
 use Rattle.swaps.proofs.product.Goals as goal
 use Rattle.swaps.proofs.product.Goals.{then-c-lt-WIDTH, else-c-lt-WIDTH}

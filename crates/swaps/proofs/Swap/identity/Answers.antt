@@ -1,9 +1,6 @@
 use mathlib.Core.Path.{refl}
-use Prim.Native.Nat.{ℕ, ◌-◌}
 use native.Mathlib.Omega.{arith}
-use lib.ListN.{replicate}
 use Rattle.ground.specs.Meanings.Group.{identity}
-use Rattle.ground.specs.Laws.Filling.{Filled}
 use Rattle.ground.proofs.Laws.Filling.{filled_start, filled_more, filled_table}
 use Rattle.swaps.proofs.Swap.identity.Goals as goal
 

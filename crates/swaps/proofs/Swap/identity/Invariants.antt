@@ -1,12 +1,8 @@
 -- `Swap::identity` gives the swap that moves nothing. The loop fills the table of the carriers themselves, which is the
 -- identity by definition.
-use mathlib.Core.Path.{refl}
-use Prim.Native.Nat.{ℕ, ◌-◌}
-use native.Mathlib.Omega.{arith}
+use Prim.Native.Nat.{ℕ}
 use lib.ListN.{replicate}
-use Rattle.ground.specs.Meanings.Group.{identity}
 use Rattle.ground.specs.Laws.Filling.{Filled}
-use Rattle.ground.proofs.Laws.Filling.{filled_start, filled_more, filled_table}
 use Rattle.swaps.proofs.Swap.identity.Given as goal
 
 abbrev pub invariant-loop-i : goal.invariant-loop-i
