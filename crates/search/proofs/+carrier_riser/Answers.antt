@@ -1,7 +1,8 @@
-use Rattle.std.proofs.Common.{◌≡◌, ℕ, ◌+◌, Bool, false, length, set, sym, ap, ◌∙◌, arith, length-set}
+use Rattle.std.proofs.Common.{◌≡◌, ℕ, ◌+◌, ◌<◌, Bool, false, length, set, sym, ap, ◌∙◌, arith, length-set}
+use Rattle.ground.specs.Meanings.Group.{at}
 use Rattle.rules.specs.Books.{book}
 use Rattle.last.specs.Last.{most_numbers, tally_of}
-use Rattle.search.specs.Trying.{Returned, Held, Opening, trying_start, tried_none, tried_over, trying_more, before_riser, kept_asks, levels_set, riser_wide, riser_known, riser_fits, riser_room, hold_asks, held_still, held_next, next_known, next_asks, before_last, before_carrier, entered_stop, entered_none, entered_finished, entered_tried}
+use Rattle.search.specs.Trying.{Returned, Held, Opening, trying_start, tried_none, tried_over, trying_more, before_riser, levels_set, riser_wide, riser_fits, riser_room, held_still, held_next, next_asks, before_last, before_carrier, entered_stop, entered_none, entered_finished, entered_tried}
 use Rattle.search.proofs.+carrier_riser.Goals as goal
 use Rattle.search.proofs.+carrier_riser.Goals.{carrier-After-riser-over, riser-After-long, riser-then-orbit-ne1, riser-else-orbit-ne1}
 
@@ -41,9 +42,9 @@ held t c =
       | riser-else-orbit-ne1 w ↦ held_still n c.requires.numbers_len c.if-orbit-ne1.numbers (riser_room Z) Z.known (riser_wide Z) w.if-orbit-ne1.false w.numbers-is w.levels-is w.store-is w.deep-is
     ]
 
--- the place where the row with c is opened
-opened : (t : ℕ) (c : riser-After-long t) → Opening c.args.limits c.args.d c.args.c c.args.level c.args.size (book c.args.lists.now c.args.counts.now c.args.others.now c.args.masks.now) (tally_of false c.args.numbers.now) (tally_of false c.if-orbit-ne1.numbers) c.args.levels.now c.args.store.now c.if-orbit-ne1.levels c.if-orbit-ne1.store c.args.row.now c.args.rows.now c.args.sizes.now c.long.result c.if-orbit-ne1.deep
-opened t c = record { before = c.requires.before_riser; going = c.if-opened-limits.false; orbit = c.long.ensures; held = (held t c).0 }
+-- the place where the row with c is opened, where the allowance is not used up
+opened : (t : ℕ) (c : riser-After-long t) → at c.args.numbers.now 0 < c.args.limits.allowance → Opening c.args.limits c.args.d c.args.c c.args.level c.args.size (book c.args.lists.now c.args.counts.now c.args.others.now c.args.masks.now) (tally_of false c.args.numbers.now) (tally_of false c.if-orbit-ne1.numbers) c.args.levels.now c.args.store.now c.if-orbit-ne1.levels c.if-orbit-ne1.store c.args.row.now c.args.rows.now c.args.sizes.now c.long.result c.if-orbit-ne1.deep
+opened t c going = record { before = c.requires.before_riser; going = going; orbit = c.long.ensures; held = (held t c).0 }
 
 pub riser-returns-then-opened-limits-clause-after_riser : goal.riser-returns-then-opened-limits-clause-after_riser
 riser-returns-then-opened-limits-clause-after_riser t c = entered_stop c.requires.before_riser c.if-opened-limits.true
@@ -53,25 +54,25 @@ riser-overflow_mul-whole t c = omega (arith, riser_fits c.requires.before_riser 
 
 pub riser-standing-mask-requires : goal.riser-standing-mask-requires
 riser-standing-mask-requires t c =
-    let k = opened t (goal.at.riser-standing-mask-requires t c).After-long in
+    let k = opened t (goal.at.riser-standing-mask-requires t c).After-long c.if-opened-limits.false in
     record { d_lt_most_risers = next_asks k; orderly = k.before.orderly (c.args.d + 1) k.before.more }
 
 pub riser-returns-then-mask-eq0-clause-after_riser : goal.riser-returns-then-mask-eq0-clause-after_riser
-riser-returns-then-mask-eq0-clause-after_riser t c = entered_none (opened t (goal.at.riser-returns-then-mask-eq0-clause-after_riser t c).After-long) c.standing-mask.ensures c.if-mask-eq0.true
+riser-returns-then-mask-eq0-clause-after_riser t c = entered_none (opened t (goal.at.riser-returns-then-mask-eq0-clause-after_riser t c).After-long c.if-opened-limits.false) c.standing-mask.ensures c.if-mask-eq0.true
 
 pub riser-finish-requires : goal.riser-finish-requires
 riser-finish-requires t c =
     let p = (goal.at.riser-finish-requires t c).After-long in
-    record { numbers_len = (held t p).1; last_riser = before_last (opened t p) c.standing-mask.ensures c.if-next-limits.true }
+    record { numbers_len = (held t p).1; last_riser = before_last (opened t p c.if-opened-limits.false) c.standing-mask.ensures c.if-next-limits.true }
 
 pub riser-returns-then-next-limits-clause-after_riser : goal.riser-returns-then-next-limits-clause-after_riser
 riser-returns-then-next-limits-clause-after_riser t c =
-    entered_finished (opened t (goal.at.riser-returns-then-next-limits-clause-after_riser t c).After-long) c.standing-mask.ensures c.if-next-limits.true c.finish.ensures.finished
+    entered_finished (opened t (goal.at.riser-returns-then-next-limits-clause-after_riser t c).After-long c.if-opened-limits.false) c.standing-mask.ensures c.if-next-limits.true c.finish.ensures.finished
 
 pub riser-carrier-requires : goal.riser-carrier-requires
 riser-carrier-requires t c =
     let p = (goal.at.riser-carrier-requires t c).After-long in
-    (omega (arith, c.decreases), ((held t p).1, before_carrier (opened t p) c.standing-mask.ensures c.if-next-limits.false))
+    (omega (arith, c.decreases), ((held t p).1, before_carrier (opened t p c.if-opened-limits.false) c.standing-mask.ensures c.if-next-limits.false))
 
 pub riser-returns-clause-after_riser : goal.riser-returns-clause-after_riser
-riser-returns-clause-after_riser t c = entered_tried (opened t (goal.at.riser-returns-clause-after_riser t c).After-long) c.carrier.ensures.after_carrier
+riser-returns-clause-after_riser t c = entered_tried (opened t (goal.at.riser-returns-clause-after_riser t c).After-long c.if-opened-limits.false) c.carrier.ensures.after_carrier
