@@ -13,7 +13,7 @@ use Rattle.std.specs.Prelude.{◌≡◌, refl, Bool, true, false, cond, List, �
 use Rattle.std.proofs.Common.{sym, ap, subst, ◌∙◌, le_trans, div-mul-le_self, mul-le-mul_right, arith, lt-ltb, le-ltb, take_all}
 use Rattle.std.proofs.Math.Decide.{dec_lt}
 use Rattle.ground.specs.declared.Fault.{Fault}
-use Rattle.ground.specs.Meanings.Sheet.{opened_beyond, listed_beyond, fault, no_fault, Sheet, Accepted, Refused, most_swaps}
+use Rattle.ground.specs.Meanings.Sheet.{opened_beyond, listed_beyond, fault, no_fault, Sheet, Accepted, most_swaps}
 use Rattle.ground.specs.Meanings.Plans.{risers}
 use Rattle.ground.specs.Meanings.Listing.{Line, on_sheet, Listing, room, filled, over, flat, rows_of, sizes_of, Left, left, ListsOn, beyond_allowance, beyond_room, listed, Lists}
 use Rattle.ground.specs.Laws.Classes.{total}

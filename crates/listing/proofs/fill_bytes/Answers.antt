@@ -1,9 +1,7 @@
-use Prim.Native.Nat.{◌-◌}
 use native.Mathlib.Omega.{arith}
 use mathlib.Core.Path.{refl}
-use lib.ListN.{length}
 use Rattle.ground.proofs.Laws.Filling.{filled_start, filled_more}
-use Rattle.listing.specs.Filling.{FilledWith, filled_with}
+use Rattle.listing.specs.Filling.{filled_with}
 use Rattle.listing.proofs.fill_bytes.Goals as goal
 
 pub loop-i-init : goal.loop-i-init

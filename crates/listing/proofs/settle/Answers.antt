@@ -2,10 +2,6 @@
 use borrow.Author.Rules.{rules}
 use Rattle.last.specs.Last.{state_of}
 use Rattle.listing.specs.Settling.{settled_over, settled_crowded, settled_fits}
-use Rattle.listing.proofs.settle.Reads as reads
-use Rattle.listing.proofs.settle.Lts as lts
-use Rattle.listing.proofs.clear_sizes.Reads as clear-sizes-reads
-use Rattle.listing.proofs.fill_bytes.Reads as fill-bytes-reads
 use Rattle.listing.proofs.settle.Goals as goal
 
 pub returns-then-t : goal.returns-then-t
