@@ -1,5 +1,7 @@
 // The planner's calls for C and Rust to link. A number of the answer that is not returned is written through a pointer;
 // every other word of each promise is that of the call itself.
+#![tactic(auto)]
+
 ghost use Rattle.ground.specs.Meanings.Sheet.{fault};
 ghost use Rattle.ground.specs.Meanings.Listing.{Lists, left};
 ghost use Rattle.ground.specs.Meanings.Folding.{Folds, folded};
