@@ -5,14 +5,12 @@
 --
 -- `filling_starts`, `filling_more` and `filling_ends` are the loop's start, turn and end; `filling_refused` its refusal.
 -- Assumes nothing.
-use Rattle.std.specs.Prelude.{◌≡◌, List, [], ◌∷◌, ◌++◌, ℕ, suc, ◌+◌, ◌<◌, ◌≤◌, length}
+use Rattle.std.specs.Prelude.{◌≡◌, List, [], ◌∷◌, ◌++◌, ℕ, suc, ◌+◌, ◌<◌, ◌≤◌, length, Ok, Err}
 use Rattle.std.proofs.Math.Path.{refl}
 use Rattle.std.proofs.Common.{sym, ap, ◌∙◌, arith}
-use Rattle.ground.specs.declared.Fault.{Fault}
-use Rattle.ground.specs.Meanings.Sheet.{got, refused, Reading, many}
+use Rattle.ground.specs.Meanings.Sheet.{Fault, got, refused, Reading, many}
 use Rattle.ground.specs.Laws.Reading.{Walk}
 use Rattle.ground.proofs.Laws.Reading.{walk_starts, walk_more, walk_refused, walk_ends}
-use Rattle.fields.specs.declared.Section.{Section}
 use Rattle.fields.specs.Tables.{put_all}
 use Rattle.fields.specs.Answers.{Answers, tell_section, answer_got, answer_refused}
 
@@ -37,8 +35,8 @@ module _ {S A : Type 0} (one : List A → Reading A) (put : S → ℕ → A → 
       table = ap (λ (y : S). put y i x) v.table ∙ ap (λ (j : ℕ). put (put_all put t₀ 0 done) j x) (let h = v.walk.so_far in omega arith) ∙ sym (put_snoc put t₀ 0 done x);
     }
 
-    pub filling_refused : {P : List A → Type 0} {f : Fault} → i < n → one done s p ≡ refused f → Answers tell_section (many one n [] s from) (Section.Refused f) P
+    pub filling_refused : {P : List A → Type 0} {f : Fault} → i < n → one done s p ≡ refused f → Answers tell_section (many one n [] s from) (Err f) P
     filling_refused l e = answer_refused tell_section (walk_refused one n s from v.walk l e)
 
-    pub filling_ends : n ≤ i → Answers tell_section (many one n [] s from) (Section.Read p) (λ (l : List A). t ≡ put_all put t₀ 0 l)
+    pub filling_ends : n ≤ i → Answers tell_section (many one n [] s from) (Ok p) (λ (l : List A). t ≡ put_all put t₀ 0 l)
     filling_ends l = answer_got tell_section (walk_ends one n s from v.walk l) v.table

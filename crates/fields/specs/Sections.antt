@@ -5,17 +5,14 @@
 -- The sheet is read section by section: what follows a section may speak of its items alone, since they are as many as the
 -- count says (`section_then`).
 -- Assumes nothing.
-use Rattle.std.specs.Prelude.{◌≡◌, ℕ, ◌≤◌}
+use Rattle.std.specs.Prelude.{◌≡◌, ℕ, ◌≤◌, Result, Ok, Err}
 use Rattle.std.proofs.Math.Path.{refl, ap}
 use Rattle.std.proofs.Common.{sym, ◌∙◌, subst}
 use mathlib.Core.List.{List, []}
 use native.Mathlib.Omega.{arith}
 use Rattle.std.proofs.Math.ListN.{length}
-use Rattle.ground.specs.declared.Fault.{Fault}
-use Rattle.ground.specs.Meanings.Sheet.{Outcome, got, refused, Reading, and_then, count, many, ◌>>=◌}
+use Rattle.ground.specs.Meanings.Sheet.{Fault, Outcome, got, refused, Reading, and_then, count, many, ◌>>=◌}
 use Rattle.ground.proofs.Laws.Reading.{and_then_got, many_length}
-use Rattle.fields.specs.declared.Section.{Section}
-use Rattle.fields.specs.declared.Number.{Number}
 use Rattle.fields.specs.Answers.{Answers, tell_number, tell_section, tell_count, answer_got, answer_refused, number_got, number_refused, section_got, section_refused, count_got}
 use Rattle.fields.specs.Fields.{count_most}
 
@@ -25,7 +22,7 @@ section least most one = do
   many one n []
 
 module _ {A : Type 0} (least most : ℕ) (one : List A → Reading A) (s : List ℕ) (p : ℕ) where
-  pub section_no_count : {P : List A → Type 0} {f : Fault} → Number.Refused f ≡ tell_number (count least most s p) → Answers tell_count (section least most one s p) (Number.Refused f) P
+  pub section_no_count : {P : List A → Type 0} {f : Fault} → Err f ≡ tell_number (count least most s p) → Answers tell_count (section least most one s p) (Err f) P
   unfolding section
   section_no_count e = answer_refused tell_count (rw (number_refused (count least most s p) e))
 
@@ -33,16 +30,16 @@ module _ {A : Type 0} (least most : ℕ) (one : List A → Reading A) (s : List 
   unfolding section
   section_both e f = rw (e, f)
 
-  module _ {n first : ℕ} (e : Number.Read n first ≡ tell_number (count least most s p)) {P : List A → Type 0} {r : Section} (a : Answers tell_section (many one n [] s first) r P) where
-    pub section_no_item : {f : Fault} → r ≡ Section.Refused f → Answers tell_count (section least most one s p) (Number.Refused f) P
+  module _ {n first : ℕ} (e : Ok (n, first) ≡ tell_number (count least most s p)) {P : List A → Type 0} {r : Result ℕ Fault} (a : Answers tell_section (many one n [] s first) r P) where
+    pub section_no_item : {f : Fault} → r ≡ Err f → Answers tell_count (section least most one s p) (Err f) P
     unfolding section
     section_no_item f = answer_refused tell_count (rw (number_got (count least most s p) e, section_refused a f))
 
-    pub section_is : {next : ℕ} → r ≡ Section.Read next → Answers tell_count (section least most one s p) (Number.Read n next) P
+    pub section_is : {next : ℕ} → r ≡ Ok next → Answers tell_count (section least most one s p) (Ok (n, next)) P
     section_is {next} f =
         let g = section_got a f in
         let l : length g.0 ≡ n = many_length one s n [] first g.0 next g.1 ∙ omega arith in
-        subst (λ (m : ℕ). Answers tell_count (section least most one s p) (Number.Read m next) P) l (answer_got tell_count (section_both (number_got (count least most s p) e) g.1) g.2)
+        subst (λ (m : ℕ). Answers tell_count (section least most one s p) (Ok (m, next)) P) l (answer_got tell_count (section_both (number_got (count least most s p) e) g.1) g.2)
 
   -- a section has at most as many items as its count may say
   pub section_most : {l : List A} {next : ℕ} → section least most one s p ≡ got l next → length l ≤ most
@@ -53,7 +50,7 @@ module _ {A : Type 0} (least most : ℕ) (one : List A → Reading A) (s : List 
       let m = count_most s p least most (ap tell_number (sym z.2)) in
       omega arith
 
-  pub section_few : {P : List A → Type 0} {r : Number} {n next : ℕ} → Answers tell_count (section least most one s p) r P → r ≡ Number.Read n next → n ≤ most
+  pub section_few : {P : List A → Type 0} {r : Result (ℕ × ℕ) Fault} {n next : ℕ} → Answers tell_count (section least most one s p) r P → r ≡ Ok (n, next) → n ≤ most
   section_few a e = let g = count_got a e in let h = section_most g.1 in let l = g.3 in omega arith
 
   -- what follows is told by the items

@@ -33,6 +33,7 @@ pub mod Members
 pub mod Closure
 pub mod Orbits
 pub mod Schreier
+pub mod Refusals
 pub mod Rows
 pub mod Chains
 pub mod Filter

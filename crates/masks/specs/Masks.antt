@@ -5,13 +5,14 @@
 --   With m c r              r has the carriers of m, and c
 --   LeastIn m c             c is the least carrier of m, and below 16
 --   Rest m r                r has the carriers of m after the least one
+--   NextCarrier m c r       the next carrier c of m, if there is one, is the least, and r has those after it
 --   Marked l from k r       r has the carriers below k whose entry in l, from the place `from` on, is not 0
 --
 -- What two masks share, what either has and what one carrier makes are told by `has_and`, `has_or` and `has_one`. A mask of w
 -- bits has carriers below w alone (`has_below`) and is settled by them (`mask_same`, `none_empty`). Each carrier of a mask is the
 -- least or after it (`rest_or_least`). Each function has the law that its promise is read from.
 -- Assumes nothing.
-use Rattle.std.specs.Prelude.{◌≡◌, refl, ◌⊎◌, ◌↔◌, List, ℕ, zero, suc, ◌+◌, ◌-◌, ◌*◌, ◌/◌, ◌%◌, ◌^◌, ◌≤◌, ◌<◌, min, max, eqb}
+use Rattle.std.specs.Prelude.{◌≡◌, refl, ◌⊎◌, ◌↔◌, List, ℕ, zero, suc, ◌+◌, ◌-◌, ◌*◌, ◌/◌, ◌%◌, ◌^◌, ◌≤◌, ◌<◌, min, max, eqb, Option, MatchOption}
 use Rattle.std.proofs.Common.{sym, ap, ◌∙◌, inl, inr, div-one, mod-eq_of_lt, one-mul, pow-suc, one-add, arith, eqb-true, pow_mono, shr-shr}
 use Rattle.std.proofs.Math.Nat.{min-le_left, min-le_right, le-max_left, le-max_right, max-le, max-add-min, div-eq_of_lt}
 use Rattle.std.proofs.Math.Decide.{ℕ_discrete, dec_lt}
@@ -48,6 +49,9 @@ pub record Rest (m r : ℕ) : Type 0 where
   pub after : (i : ℕ) → Has r i → (c : ℕ) → LeastIn m c → c < i
   pub all : (i c : ℕ) → LeastIn m c → Has m i → c < i → Has r i
   pub less : r < m
+
+abbrev pub NextCarrier : ℕ → Option ℕ → ℕ → Type 0
+NextCarrier m c r = MatchOption c ((m ≡ 0) × (r ≡ 0)) (λ c. LeastIn m c × Rest m r)
 
 pub record Marked (l : List ℕ) (from k r : ℕ) : Type 0 where
   pub only : (c : ℕ) → Has r c → (c < k) × ¬ (at l (from + c) ≡ 0)

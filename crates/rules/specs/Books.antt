@@ -1,29 +1,19 @@
--- The lists and the rules of a sheet as masks.
+-- What the book says: the lists and the rules of a sheet as masks. The book itself is the struct `Book` of src/lib.rt.
 --
---   Book               a mask of each riser's list; how many rules end at each riser; the other riser of each; and for each and
---                      each carrier of its other riser a mask of the carriers that go with it
 --   Passes B p c       by the book, the carrier c may follow the row p
 --   Orderly B d        the rules that end at riser d are at most 12, and each has its other riser before d
 --   Shows k n T B      the book says of every row what the tables T say; k carriers, n risers
 --   Standing B p m r   r has the carriers of m that pass after the row p
 --
--- The j-th rule that ends at riser d is at d · 12 + j, and its mask for carrier u of the other riser at (d · 12 + j) · 15 + u.
 -- These are definitions: nothing is assumed or proved here.
 use Rattle.std.specs.Prelude.{List, ℕ, ◌+◌, ◌*◌, ◌≤◌, ◌<◌, length}
 use Rattle.ground.specs.Meanings.Group.{at}
 use Rattle.ground.specs.Meanings.Sheet.{most_carriers, most_risers}
 use Rattle.ground.specs.Laws.Rows.{Below}
 use Rattle.masks.specs.Masks.{Has}
-use Rattle.ground.specs.Laws.Tables.{Tables, Stands}
-
-pub record Book : Type 0 where
-  pub lists : List ℕ
-  pub counts : List ℕ
-  pub others : List ℕ
-  pub masks : List ℕ
-
-abbrev pub book : List ℕ → List ℕ → List ℕ → List ℕ → Book
-book l c o m = record { lists = l; counts = c; others = o; masks = m }
+use Rattle.ground.specs.declared.Tables.{Tables}
+use Rattle.ground.specs.Laws.Tables.{Stands}
+use Rattle.rules.specs.declared.Book.{Book}
 
 -- the mask that the j-th rule which ends after the row p has for the carrier of its other riser
 abbrev pub mask_for : Book → List ℕ → ℕ → ℕ

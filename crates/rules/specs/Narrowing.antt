@@ -15,7 +15,8 @@ use Rattle.ground.specs.Meanings.Sheet.{most_carriers, most_risers}
 use Rattle.ground.proofs.Laws.Lists.{mem_at}
 use Rattle.ground.specs.Laws.Rows.{Below}
 use Rattle.masks.specs.Masks.{Has, has_none, Both}
-use Rattle.rules.specs.Books.{Book, Orderly, Passes, Standing}
+use Rattle.rules.specs.declared.Book.{Book}
+use Rattle.rules.specs.Books.{Orderly, Passes, Standing}
 
 abbrev pub mask_of : Book → List ℕ → ℕ → ℕ
 mask_of B p r = at B.masks (r * most_carriers + at p (at B.others r))
@@ -99,11 +100,11 @@ module _ {B : Book} {p : List ℕ} {m next left : ℕ} (N : Narrowed B (length p
     only = λ c h. absurd (has_none c h);
   }
 
-module _ {B : Book} {d : ℕ} {p : List ℕ} {m next left : ℕ} (N : Narrowed B d p m next left) (e : length p ≡ d) where
+module _ {B : Book} {d : ℕ} (row : List ℕ) {m next left : ℕ} (N : Narrowed B d (take d row) m next left) (high : d ≤ length row) where
   -- all rules are asked
-  pub narrowed_whole : d * most_risers + at B.counts d ≤ next → Standing B p m left
-  narrowed_whole end = whole {next = next} {left = left} (rw e N) (rw e end)
+  pub narrowed_whole : d * most_risers + at B.counts d ≤ next → Standing B (take d row) m left
+  narrowed_whole end = whole {next = next} {left = left} (rw (length-take-le d row high) N) (rw (length-take-le d row high) end)
 
   -- no carrier is left
-  pub narrowed_none : left ≡ 0 → Standing B p m 0
-  narrowed_none = none {next = next} {left = left} (rw e N)
+  pub narrowed_none : left ≡ 0 → Standing B (take d row) m 0
+  narrowed_none = none {next = next} {left = left} (rw (length-take-le d row high) N)

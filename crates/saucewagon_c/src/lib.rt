@@ -1,10 +1,14 @@
 // The planner's calls for C and Rust to link. A number of the answer that is not returned is written through a pointer;
-// every other word of each promise is that of the call itself.
+// every other word of each promise is that of the call itself. (An answer is matched here and in the trials: the check does not cover `err()`
+// beside a second use of it.)
+// `as` stands where a number is proved small enough, or where a size is made 64 bits wide: `From` has neither.
 #![tactic(auto)]
 
 ghost use Rattle.ground.specs.Meanings.Sheet.{fault};
 ghost use Rattle.ground.specs.Meanings.Listing.{Lists, left};
 ghost use Rattle.ground.specs.Meanings.Folding.{Folds, folded};
+
+use ground::Told;
 
 // Lists the plans of a sheet once per kind into the lent lists, and returns the number of the answer.
 #[unsafe(no_mangle)]
@@ -20,13 +24,16 @@ pub extern "C" fn saucewagon_list(
 ) -> u64
     ensures { Lists sheet.now allowance bytes.old sizes.old (left (fault result place.new) listed.new opened.new total.new bytes.new sizes.new) }
 {
-    let answer = listing::list(sheet, allowance, bytes, sizes);
-    let fault = answer.fault;
-    *place = fault.place as u64;
-    *listed = answer.listed as u64;
-    *opened = answer.opened;
-    *total = answer.total;
-    fault.number as u64
+    let (refused, counted) = match listing::list(sheet, allowance, bytes, sizes) {
+        Ok(counted) => (None, counted),
+        Err(refused) => (Some(refused.fault()), refused.listed()),
+    };
+    let told = Told::from(refused);
+    *place = told.place as u64;
+    *listed = counted.listed as u64;
+    *opened = counted.opened;
+    *total = counted.total;
+    u64::from(told.number)
 }
 
 // Folds a row of a sheet into the lent buffers, and returns the number of the answer.
@@ -41,9 +48,12 @@ pub extern "C" fn saucewagon_fold(
 ) -> u64
     ensures { Folds sheet.now row.now first.old member.old (folded (fault result place.new) size.new first.new member.new) }
 {
-    let answer = folding::fold(sheet, row, first, member);
-    let fault = answer.fault;
-    *place = fault.place as u64;
-    *size = answer.size;
-    fault.number as u64
+    let (refused, images) = match folding::fold(sheet, row, first, member) {
+        Ok(images) => (None, images),
+        Err(fault) => (Some(fault), 0),
+    };
+    let told = Told::from(refused);
+    *place = told.place as u64;
+    *size = images;
+    u64::from(told.number)
 }

@@ -248,7 +248,8 @@ rules_small n M s m p {rs} {next} e = many_all CarrierPairs (rule n (is_listed M
     let z = and_then_got (checked _ _ two s a) _ f in
     let y = and_then_got (count 0 most_pairs s z.1) _ z.3 in
     let w = and_then_got (many (allowed_pair (is_listed M z.0.left) (is_listed M z.0.right)) y.0 [] s y.1) _ y.3 in
-    let i : ◌≡◌ {A = Rule} (record { risers = z.0; pairs = w.0 }) x = cc w.3 in
-    subst CarrierPairs i (many_all CarrierPair (allowed_pair (is_listed M z.0.left) (is_listed M z.0.right)) s (λ d b c r g.
+    let read : Rule = record { risers = z.0; pairs = w.0 } in
+    let i : read ≡ x = cc w.3 in
+    subst CarrierPairs {x = read} i (many_all CarrierPair (allowed_pair (is_listed M z.0.left) (is_listed M z.0.right)) s (λ d b c r g.
     let t = and_left (is_listed M z.0.left c.left && is_listed M z.0.right c.right) (after before d c) (checked_passed _ _ two s b g).0 in
     (listed_small M z.0.left c.left (and_left (is_listed M z.0.left c.left) (is_listed M z.0.right c.right) t), listed_small M z.0.right c.right (and_right (is_listed M z.0.left c.left) (is_listed M z.0.right c.right) t))) y.0 [] y.1 w.0 w.1 tt w.2)) m [] p rs next tt e

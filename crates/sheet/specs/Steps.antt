@@ -1,154 +1,123 @@
--- How far a reader has come, section by section.
+-- How a reader goes on, section by section.
 --
---   Reached i s p f M T E G   of the sheet s, i sections are read, up to the place p: f has what they say, and the tables M, T, E
---                             and G are theirs, those of later sections still blank; or f has the fault that refuses the sheet
---   Begun s p f M T E G       as many sections as may be are read
---   Goes s p f M T E G ..     from there, one section more is read, or the reader stays where it is
---   whole_at s p f             the answer of a reader at p, by what it found
+--   reader_at r p      the reader r, at the place p of its sheet
+--   moved r x          what a section counted and the place after it, x, as the reader r answers it: with the reader at that place
+--   tell_reader r o    the reader's answer for an outcome o of a section: the number of its items, and the reader after it
+--   tell_end o         the answer for an outcome o of the end
+--   placed x           what a reader answers, with the place alone in the stead of the reader
+--   CarriersTo s p k r, RisersTo s p k n r M, RulesTo s p k n m r T, SwapsTo s p h r T G
+--                      the sheet at the place p of s is read up to the reader r, which is at the place after that section; the numbers
+--                      that were counted, and the tables
 --
--- After four sections the reader's answer is that of the whole sheet (`reached_whole`).
+-- A reader's answer is the section's own on its sheet (`on_sheet`), and the reader after it has the same sheet (`same_sheet`). So there
+-- are two laws for each section and for the end: how far the sheet is read where it answers (`carriers_to` and the others), and that
+-- the sheet is refused where it refuses (`carriers_out` and the others).
 -- Assumes nothing.
-use Rattle.std.proofs.Math.Path.{◌≡◌, refl, ap, subst}
-use Rattle.std.proofs.Common.{sym, ◌∙◌, eqb-true, eq-eqb, ne_eqb}
-use Rattle.std.specs.Prelude.{Bool, true, false, cond, ℕ, suc, ◌≤◌, ◌*◌, eqb, length, replicate}
-use mathlib.Core.List.{List}
-use native.Mathlib.Omega.{arith}
-use Rattle.std.proofs.lemmas.Bool.{eqb-false}
+use Rattle.std.specs.Prelude.{◌≡◌, refl, List, ℕ, replicate, Result, Ok, Err}
+use Rattle.std.specs.Result.{IsErrAnd}
+use Rattle.std.proofs.Common.{sym, ap, ◌∙◌, subst}
 use Rattle.ground.specs.Meanings.Group.{identity}
-use Rattle.ground.specs.declared.Fault.{Fault}
-use Rattle.ground.specs.Meanings.Sheet.{sheet_ends, bytes_follow, fault, refused, job_sheet, Sheet, Rule, count, riser, rule, swap, most_carriers, most_risers, most_rules, most_pairs, most_swaps}
-use Rattle.fields.specs.declared.Number.{Number}
-use Rattle.sheet.specs.declared.Found.{Found}
-use Rattle.sheet.specs.declared.Head.{Head}
-use Rattle.fields.specs.Tables.{mark_lists, is_listed, is_allowed, rule_tables, mark_rules, put_swap, put_all}
-use Rattle.fields.specs.Answers.{Answers, tell_number, tell_count, answer_refused}
-use Rattle.sheet.specs.Serves.{Serves, Blank, tell_sheet}
+use Rattle.ground.specs.Meanings.Sheet.{Fault, Outcome, refused, Reading, count, riser, Rule, rule, swap, nothing_more, Sheet, job_sheet, most_carriers, most_risers, most_rules, most_swaps}
+use Rattle.ground.specs.Laws.Tables.{blank_tables}
+use Rattle.ground.specs.declared.Tables.{Tables}
+use Rattle.fields.specs.Tables.{mark_lists, is_listed, rule_tables, mark_rules, is_allowed, put_swap, put_all}
+use Rattle.fields.specs.Answers.{Answers, tell, tell_number, tell_count, answer_refused, tell_got, tell_refused}
 use Rattle.fields.specs.Sections.{section}
-use Rattle.sheet.specs.Whole.{GotCarriers, GotRisers, GotRules, GotSwaps, no_carriers, carriers_got, no_risers, risers_got, no_rules, rules_got, no_swaps, swaps_got, all_read, more_bytes}
+use Rattle.sheet.specs.declared.Head.{Head}
+use Rattle.sheet.specs.declared.Reader.{Reader}
+use Rattle.sheet.specs.Serves.{tell_sheet, Serves}
+use Rattle.sheet.specs.Whole.{GotCarriers, no_carriers, carriers_got, GotRisers, no_risers, risers_got, GotRules, no_rules, rules_got, GotSwaps, no_swaps, swaps_got, all_read, more_bytes}
 
-unfoldable pub Reached : ℕ → List ℕ → ℕ → Found → List ℕ → List ℕ → List ℕ → List (List ℕ) → Type 0
-Reached i s p Found.Nothing M T E G = (i ≡ 0) × (p ≡ 0) × Blank M T E G
-Reached i s p (Found.Carriers k) M T E G = (i ≡ 1) × GotCarriers s 0 k p × Blank M T E G
-Reached i s p (Found.Risers k n) M T E G = (i ≡ 2) × GotRisers s 0 k n p M × (T ≡ replicate (most_rules * most_pairs) 0) × (E ≡ replicate (most_risers * most_risers) 0) × (G ≡ replicate most_swaps (identity most_carriers))
-Reached i s p (Found.Rules k n m) M T E G = (i ≡ 3) × GotRules s 0 k n m p M T E × (G ≡ replicate most_swaps (identity most_carriers))
-Reached i s p (Found.Swaps k n m c) M T E G = (4 ≤ i) × GotSwaps s 0 k n m c p M T E G
-Reached i s p (Found.Refused f) M T E G = job_sheet s 0 ≡ refused f
+abbrev pub reader_at : Reader → ℕ → Reader
+reader_at r p = record { sheet = r.sheet; at = p }
 
-pub record Begun (s : List ℕ) (p : ℕ) (f : Found) (M T E : List ℕ) (G : List (List ℕ)) : Type 0 where
-  pub sections : ℕ
-  pub reached : Reached sections s p f M T E G
+abbrev pub moved : Reader → Result (ℕ × ℕ) Fault → Result (ℕ × Reader) Fault
+moved r (Ok x) = Ok (x.0, reader_at r x.1)
+moved r (Err f) = Err f
 
--- ---- one section more
+abbrev pub tell_reader : {A : Type 0} → Reader → Outcome (List A) → Result (ℕ × Reader) Fault
+tell_reader r o = moved r (tell_count o)
 
--- what reading the section after f answers, and what it leaves in the tables
-unfoldable pub NextSection : List ℕ → ℕ → Number → List ℕ → List ℕ → List ℕ → List (List ℕ) → List ℕ → List ℕ → List ℕ → List (List ℕ) → Found → Type 0
-NextSection s p r M T E G M' T' E' G' Found.Nothing = (r ≡ tell_number (count 1 most_carriers s p)) × (M' ≡ M) × (T' ≡ T) × (E' ≡ E) × (G' ≡ G)
-NextSection s p r M T E G M' T' E' G' (Found.Carriers k) = Answers tell_count (section 1 most_risers (riser k) s p) r (λ (l : List (List ℕ)). M' ≡ mark_lists M l) × (T' ≡ T) × (E' ≡ E) × (G' ≡ G)
-NextSection s p r M T E G M' T' E' G' (Found.Risers k n) = Answers tell_count (section 0 most_rules (rule n (is_listed M)) s p) r (λ (l : List Rule). rule_tables T' E' ≡ mark_rules (rule_tables T E) l) × (M' ≡ M) × (G' ≡ G)
-NextSection s p r M T E G M' T' E' G' (Found.Rules k n m) = Answers tell_count (section 0 most_swaps (swap k n m (is_listed M) (is_allowed T)) s p) r (λ (l : List (List ℕ)). G' ≡ put_all put_swap G 0 l) × (M' ≡ M) × (T' ≡ T) × (E' ≡ E)
-NextSection s p r M T E G M' T' E' G' (Found.Swaps k n m c) = (r ≡ Number.Read c p) × (M' ≡ M) × (T' ≡ T) × (E' ≡ E) × (G' ≡ G)
-NextSection s p r M T E G M' T' E' G' (Found.Refused f) = (r ≡ Number.Refused f) × (M' ≡ M) × (T' ≡ T) × (E' ≡ E) × (G' ≡ G)
+abbrev pub tell_end : Outcome Unit → Result Unit Fault
+tell_end o = tell (λ _ _. tt) o
 
-abbrev pub with_count : ℕ → Found → Found
-with_count c Found.Nothing = Found.Carriers c
-with_count c (Found.Carriers k) = Found.Risers k c
-with_count c (Found.Risers k n) = Found.Rules k n c
-with_count c (Found.Rules k n m) = Found.Swaps k n m c
-with_count c (Found.Swaps k n m _) = Found.Swaps k n m c
-with_count c (Found.Refused f) = Found.Refused f
+abbrev pub placed : Result (ℕ × Reader) Fault → Result (ℕ × ℕ) Fault
+placed (Ok x) = Ok (x.0, x.1.at)
+placed (Err f) = Err f
 
-abbrev pub step_place : Number → ℕ
-step_place (Number.Read c next) = next
-step_place (Number.Refused f) = f.place
+module _ (r : Reader) where
+  placed_moved : (x : Result (ℕ × ℕ) Fault) → placed (moved r x) ≡ x
+  placed_moved (Ok x) = refl
+  placed_moved (Err f) = refl
 
-abbrev pub step_found : Found → Number → Found
-step_found f (Number.Read c next) = with_count c f
-step_found f (Number.Refused x) = Found.Refused x
+  pub same_sheet : (x : Result (ℕ × ℕ) Fault) {n : ℕ} {r' : Reader} → Ok (n, r') ≡ moved r x → r'.sheet.now ≡ r.sheet.now
+  same_sheet (Ok x) {n} {r'} e = let z : (◌≡◌ {A = ℕ × Reader} (n, r') (x.0, reader_at r x.1)) = cc in ap (λ (y : ℕ × Reader). y.1.sheet.now) z
+  same_sheet (Err f) e = cc
 
-pub record Goes (s : List ℕ) (p : ℕ) (f : Found) (M T E : List ℕ) (G : List (List ℕ)) (p' : ℕ) (f' : Found) (M' T' E' : List ℕ) (G' : List (List ℕ)) : Type 0 where
-  pub on : (i : ℕ) → Reached i s p f M T E G → Reached (suc i) s p' f' M' T' E' G'
+  pub on_sheet : {A : Type 0} {s : List ℕ} {a : Result (ℕ × Reader) Fault} {P : List A → Type 0} → r.sheet.now ≡ s → (section : Reading (List A)) → Answers (tell_reader r) (section r.sheet.now r.at) a P → Answers tell_count (section s r.at) (placed a) P
+  on_sheet {A} {s} {a} {P} here section h = subst (λ (t : List ℕ). Answers tell_count (section t r.at) (placed a) P) here (record { told = ap placed h.told ∙ placed_moved (tell_count (section r.sheet.now r.at)); leaves = h.leaves })
 
-abbrev pub whole_at : List ℕ → ℕ → Found → Head
-whole_at s p Found.Nothing = Head.Refused (fault sheet_ends p)
-whole_at s p (Found.Carriers k) = Head.Refused (fault sheet_ends p)
-whole_at s p (Found.Risers k n) = Head.Refused (fault sheet_ends p)
-whole_at s p (Found.Rules k n m) = Head.Refused (fault sheet_ends p)
-whole_at s p (Found.Swaps k n m c) = cond (eqb p (length s)) (Head.Accepted k n m c) (Head.Refused (fault bytes_follow p))
-whole_at s p (Found.Refused f) = Head.Refused f
+-- ---- how far a reader has come
 
--- what is said of tables is said of the same tables
-same : {M T E M' T' E' : List ℕ} {G G' : List (List ℕ)} (P : List ℕ → List ℕ → List ℕ → List (List ℕ) → Type 0) → M' ≡ M → T' ≡ T → E' ≡ E → G' ≡ G → P M T E G → P M' T' E' G'
-same P m t e g h = rw (m, t, e, g) h
+abbrev pub CarriersTo : List ℕ → ℕ → ℕ → Reader → Type 0
+CarriersTo s p k r = (r.sheet.now ≡ s) × GotCarriers s p k r.at
 
--- the laws of Whole, case by case
-module _ (s M T E M' T' E' : List ℕ) (G G' : List (List ℕ)) where
-  goes_on : (f : Found) (r : Number) (p i : ℕ) → NextSection s p r M T E G M' T' E' G' f → Reached i s p f M T E G → Reached (suc i) s (step_place r) (step_found f r) M' T' E' G'
-  unfolding Reached NextSection
-  goes_on Found.Nothing (Number.Read k next) p i a h =
-      (omega (arith, h.0), carriers_got s 0 (a.0 ∙ ap (λ (z : ℕ). tell_number (count 1 most_carriers s z)) h.1), same Blank a.1 a.2 a.3 a.4 h.2)
-  goes_on Found.Nothing (Number.Refused x) p i a h = no_carriers s 0 (a.0 ∙ ap (λ (z : ℕ). tell_number (count 1 most_carriers s z)) h.1)
-  goes_on (Found.Carriers k) (Number.Read n next) p i a h =
-      (omega (arith, h.0), risers_got s 0 h.1 M a.0 h.2.no_member refl, a.1 ∙ h.2.none_allowed, a.2 ∙ h.2.no_ends, a.3 ∙ h.2.all_stay)
-  goes_on (Found.Carriers k) (Number.Refused x) p i a h = no_risers s 0 h.1 M a.0 refl
-  goes_on (Found.Risers k n) (Number.Read m next) p i a h =
-      (omega (arith, h.0), subst (λ (z : List ℕ). GotRules s 0 k n m next z T' E') (sym a.1) (rules_got s 0 h.1 T E a.0 h.2 h.3 refl), a.2 ∙ h.4)
-  goes_on (Found.Risers k n) (Number.Refused x) p i a h = no_rules s 0 h.1 T E a.0 refl
-  goes_on (Found.Rules k n m) (Number.Read c next) p i a h =
-      (omega (arith, h.0), same (GotSwaps s 0 k n m c next) a.1 a.2 a.3 refl (swaps_got s 0 h.1 G a.0 h.2 refl))
-  goes_on (Found.Rules k n m) (Number.Refused x) p i a h = no_swaps s 0 h.1 G a.0 refl
-  goes_on (Found.Swaps k n m c) (Number.Read d next) p i a h =
-      let x : d ≡ c = (let e = a.0 in cc) in
-      let y : next ≡ p = (let e = a.0 in cc) in
-      (omega (arith, h.0), same (GotSwaps s 0 k n m d next) a.1 a.2 a.3 a.4 (rw (x, y) h.1))
-  goes_on (Found.Swaps k n m c) (Number.Refused x) p i a h = absurd (let e = a.0 in let b : ◌≡◌ {A = ℕ} 0 1 = cc in omega arith)
-  goes_on (Found.Refused f) (Number.Read d next) p i a h = absurd (let e = a.0 in let b : ◌≡◌ {A = ℕ} 0 1 = cc in omega arith)
-  goes_on (Found.Refused f) (Number.Refused x) p i a h = let y : x ≡ f = (let e = a.0 in cc) in rw y h
+abbrev pub RisersTo : List ℕ → ℕ → ℕ → ℕ → Reader → List ℕ → Type 0
+RisersTo s p k n r M = (r.sheet.now ≡ s) × GotRisers s p k n r.at M
 
-  pub next_goes : (f : Found) (r : Number) (p p' : ℕ) (f' : Found) → NextSection s p r M T E G M' T' E' G' f → p' ≡ step_place r → f' ≡ step_found f r → Goes s p f M T E G p' f' M' T' E' G'
-  next_goes f r p p' f' a x y = record { on = λ i h. rw (x, y) (goes_on f r p i a h) }
+abbrev pub RulesTo : List ℕ → ℕ → ℕ → ℕ → ℕ → Reader → Tables → Type 0
+RulesTo s p k n m r T = (r.sheet.now ≡ s) × GotRules s p k n m r.at T.listed T.allowed T.ends
 
--- ---- what a section asks of those before it
+abbrev pub SwapsTo : List ℕ → ℕ → Head → Reader → Tables → List (List ℕ) → Type 0
+SwapsTo s p h r T G = (r.sheet.now ≡ s) × GotSwaps s p h.carriers h.risers h.rules h.swaps r.at T.listed T.allowed T.ends G
 
-module _ {s : List ℕ} {p : ℕ} {f : Found} {M T E : List ℕ} {G : List (List ℕ)} (b : Begun s p f M T E G) where
-  reached_as : {g : Found} → f ≡ g → Reached b.sections s p g M T E G
-  reached_as e = subst (λ (g : Found). Reached b.sections s p g M T E G) e b.reached
+module _ (r : Reader) {a : Result (ℕ × Reader) Fault} (e : a ≡ moved r (tell_number (count 1 most_carriers r.sheet.now r.at))) where
+  counted : placed a ≡ tell_number (count 1 most_carriers r.sheet.now r.at)
+  counted = ap placed e ∙ placed_moved r _
 
-  pub few_carriers : {k : ℕ} → f ≡ Found.Carriers k → k ≤ most_carriers
-  unfolding Reached
-  few_carriers e = (reached_as e).1.few
+  pub carriers_to : {k : ℕ} {r' : Reader} → a ≡ Ok (k, r') → CarriersTo r.sheet.now r.at k r'
+  carriers_to w = (same_sheet r _ (sym w ∙ e), carriers_got r.sheet.now r.at (sym (ap placed w) ∙ counted))
 
-  pub few_risers : {k n : ℕ} → f ≡ Found.Risers k n → n ≤ most_risers
-  unfolding Reached
-  few_risers e = let g = (reached_as e).1 in let l = g.number in let w = g.few in omega arith
+  pub carriers_out : {f : Fault} → a ≡ Err f → job_sheet r.sheet.now r.at ≡ refused f
+  carriers_out w = no_carriers r.sheet.now r.at (sym (ap placed w) ∙ counted)
 
-  pub few_carriers_ruled : {k n m : ℕ} → f ≡ Found.Rules k n m → k ≤ most_carriers
-  unfolding Reached
-  few_carriers_ruled e = (reached_as e).1.risers.carriers.few
+module _ {s : List ℕ} {p : ℕ} {r : Reader} {a : Result (ℕ × Reader) Fault} where
+  module _ {k : ℕ} {M : List ℕ} {T₀ : Tables} (h : CarriersTo s p k r) (b : T₀ ≡ blank_tables) (q : Answers (tell_reader r) (section 1 most_risers (riser k) r.sheet.now r.at) a (λ (l : List (List ℕ)). M ≡ mark_lists T₀.listed l)) where
+    pub risers_to : {n : ℕ} {r' : Reader} → a ≡ Ok (n, r') → RisersTo s p k n r' M
+    risers_to w = (same_sheet r _ (sym w ∙ q.told) ∙ h.0, risers_got s p h.1 T₀.listed (on_sheet r h.0 (section 1 most_risers (riser k)) q) (ap (λ (T : Tables). T.listed) b) (ap placed w))
 
--- ---- the whole
+    pub risers_out : {f : Fault} → a ≡ Err f → job_sheet s p ≡ refused f
+    risers_out w = no_risers s p h.1 T₀.listed (on_sheet r h.0 (section 1 most_risers (riser k)) q) (ap placed w)
 
-module _ (s : List ℕ) (p : ℕ) {f : Found} {k n m c : ℕ} (e : f ≡ Found.Swaps k n m c) where
-  pub whole_read : p ≡ length s → Head.Accepted k n m c ≡ whole_at s p f
-  whole_read h = rw (e, eq-eqb p (length s) h) refl
+  module _ {k n : ℕ} {M : List ℕ} {T₀ : Tables} (T : Tables) (h : RisersTo s p k n r M) (b : T₀ ≡ blank_tables) (q : Answers (tell_reader r) (section 0 most_rules (rule n (is_listed M)) r.sheet.now r.at) a (λ (l : List Rule). rule_tables T.allowed T.ends ≡ mark_rules (rule_tables T₀.allowed T₀.ends) l)) where
+    pub rules_to : {m : ℕ} {r' : Reader} → T.listed ≡ M → a ≡ Ok (m, r') → RulesTo s p k n m r' T
+    rules_to {m} {r'} same w = (
+      same_sheet r _ (sym w ∙ q.told) ∙ h.0,
+      subst (λ (L : List ℕ). GotRules s p k n m r'.at L T.allowed T.ends) (sym same)
+          (rules_got s p h.1 T₀.allowed T₀.ends (on_sheet r h.0 (section 0 most_rules (rule n (is_listed M))) q) (ap (λ (x : Tables). x.allowed) b) (ap (λ (x : Tables). x.ends) b) (ap placed w)),
+    )
 
-  pub whole_more : {x : Fault} → (p ≡ length s → ⊥) → x ≡ fault bytes_follow p → Head.Refused x ≡ whole_at s p f
-  whole_more h g = rw (e, ne_eqb p (length s) h) (ap Head.Refused g)
+    pub rules_out : {f : Fault} → a ≡ Err f → job_sheet s p ≡ refused f
+    rules_out w = no_rules s p h.1 T₀.allowed T₀.ends (on_sheet r h.0 (section 0 most_rules (rule n (is_listed M))) q) (ap placed w)
 
--- ---- the first step, and the last
+  module _ {k n m : ℕ} {T : Tables} {G₀ G : List (List ℕ)} (h : RulesTo s p k n m r T) (b : G₀ ≡ replicate most_swaps (identity most_carriers)) (q : Answers (tell_reader r) (section 0 most_swaps (swap k n m (is_listed T.listed) (is_allowed T.allowed)) r.sheet.now r.at) a (λ (l : List (List ℕ)). G ≡ put_all put_swap G₀ 0 l)) where
+    pub swaps_to : {c : ℕ} {r' : Reader} → a ≡ Ok (c, r') → SwapsTo s p (record { carriers = k; risers = n; rules = m; swaps = c }) r' T G
+    swaps_to w = (same_sheet r _ (sym w ∙ q.told) ∙ h.0, swaps_got s p h.1 G₀ (on_sheet r h.0 (section 0 most_swaps (swap k n m (is_listed T.listed) (is_allowed T.allowed))) q) b (ap placed w))
 
-pub reached_nothing : (s : List ℕ) {M T E : List ℕ} {G : List (List ℕ)} → Blank M T E G → Reached 0 s 0 Found.Nothing M T E G
-unfolding Reached
-reached_nothing s b = (refl, refl, b)
+    pub swaps_out : {f : Fault} → a ≡ Err f → job_sheet s p ≡ refused f
+    swaps_out w = no_swaps s p h.1 G₀ (on_sheet r h.0 (section 0 most_swaps (swap k n m (is_listed T.listed) (is_allowed T.allowed))) q) (ap placed w)
 
-pub reached_whole : (s : List ℕ) (p : ℕ) (f : Found) (M T E : List ℕ) (G : List (List ℕ)) → Reached 4 s p f M T E G → Answers tell_sheet (job_sheet s 0) (whole_at s p f) (λ (X : Sheet). Serves X M T E G)
-unfolding Reached
-reached_whole s p Found.Nothing M T E G h = absurd (omega (arith, h.0))
-reached_whole s p (Found.Carriers k) M T E G h = absurd (omega (arith, h.0))
-reached_whole s p (Found.Risers k n) M T E G h = absurd (omega (arith, h.0))
-reached_whole s p (Found.Rules k n m) M T E G h = absurd (omega (arith, h.0))
-reached_whole s p (Found.Swaps k n m c) M T E G h = go (eqb p (length s)) refl
-  where
-    go : (b : Bool) → eqb p (length s) ≡ b → Answers tell_sheet (job_sheet s 0) (cond b (Head.Accepted k n m c) (Head.Refused (fault bytes_follow p))) (λ (X : Sheet). Serves X M T E G)
-    go true e = all_read s 0 h.1 (eqb-true p (length s) e)
-    go false e = answer_refused tell_sheet (more_bytes s 0 h.1 (eqb-false p (length s) e))
-reached_whole s p (Found.Refused f) M T E G h = answer_refused tell_sheet h
+module _ {s : List ℕ} {p : ℕ} {h : Head} (r : Reader) {T : Tables} {G : List (List ℕ)} (l : SwapsTo s p h r T G) {a : Result Unit Fault} (e : a ≡ tell_end (nothing_more r.sheet.now r.at)) where
+  ended : a ≡ tell_end (nothing_more s r.at)
+  ended = e ∙ ap (λ (t : List ℕ). tell_end (nothing_more t r.at)) l.0
+
+  pub end_to : {u : Unit} → a ≡ Ok u → Answers tell_sheet (job_sheet s p) (Ok h) (λ (X : Sheet). Serves X T G)
+  end_to w = let t = tell_got _ (nothing_more s r.at) (sym w ∙ ended) in all_read s p l.1 t.2
+
+  pub end_out : {f : Fault} → a ≡ Err f → job_sheet s p ≡ refused f
+  end_out w = more_bytes s p l.1 (tell_refused _ (nothing_more s r.at) (sym w ∙ ended))
+
+-- a refusal that is handed up refuses the whole
+pub handed_up : {o : Outcome Sheet} {f : Fault} {P : Sheet → Type 0} {r : Result Head Fault} → o ≡ refused f → IsErrAnd r (λ g. g ≡ f) → Answers tell_sheet o r P
+handed_up {r = Ok h} e g = absurd g
+handed_up {r = Err f} e g = answer_refused tell_sheet (e ∙ ap refused (sym g))

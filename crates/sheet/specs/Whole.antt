@@ -5,21 +5,21 @@
 -- One law for each section that is read, and one for each that is refused. The code reads rules and swaps by its tables, the
 -- definition by the lists; they agree since the tables say what the lists do.
 -- Assumes nothing.
-use Rattle.std.specs.Prelude.{◌≡◌, refl, Bool, List, [], ◌∷◌, ◌++◌, map, length, replicate}
-use Rattle.std.proofs.Common.{sym, ap₂, ◌∙◌, append_assoc, arith, length-append, eq-eqb, ne_eqb}
+use Rattle.std.specs.Prelude.{◌≡◌, refl, Bool, true, false, List, [], ◌∷◌, ◌++◌, map, length, replicate, Result, Ok, Err, is_err}
+use Rattle.std.proofs.Common.{sym, ap₂, ◌∙◌, append_assoc, arith, length-append}
 use Rattle.std.proofs.Math.Path.{ap, subst, fun_ext}
 use Prim.Native.Nat.{ℕ, zero, suc, ◌*◌, ◌-◌, ◌≤◌}
 use Rattle.std.proofs.Math.Seq.{set-append_seam}
 use Rattle.ground.specs.Meanings.Group.{identity}
-use Rattle.ground.specs.declared.Fault.{Fault}
-use Rattle.ground.specs.Meanings.Sheet.{bytes_follow, fault, Outcome, got, refused, and_then, many, count, riser, rule, Rule, swap, nothing_more, is_listed_in, allowed_by, Sheet, job_sheet, most_carriers, most_risers, most_rules, most_pairs, most_swaps}
+use Rattle.ground.specs.Meanings.Sheet.{Fault, Outcome, got, refused, and_then, many, count, riser, rule, Rule, swap, nothing_more, is_listed_in, allowed_by, Sheet, job_sheet, most_carriers, most_risers, most_rules, most_pairs, most_swaps}
 use Rattle.ground.specs.Laws.Reading.{All}
 use Rattle.ground.proofs.Laws.Reading.{and_then_got}
-use Rattle.fields.specs.declared.Number.{Number}
+use Rattle.ground.specs.declared.Tables.{Tables}
+use Rattle.ground.specs.Laws.Tables.{tables}
 use Rattle.sheet.specs.declared.Head.{Head}
 use Rattle.fields.specs.Tables.{mark_lists, is_listed, is_allowed, RuleTables, rule_tables, mark_rules, padded, put_swap, put_all}
 use Rattle.fields.specs.Answers.{Answers, tell_number, tell_count, answer_got, number_got, number_refused, count_got, count_refused}
-use Rattle.sheet.specs.Serves.{Serves, Blank, Reads, tell_sheet}
+use Rattle.sheet.specs.Serves.{tell_sheet, Serves, Blank, Reads}
 use Rattle.fields.specs.Fields.{count_most}
 use Rattle.fields.specs.Sections.{section, section_then, section_most}
 use Rattle.sheet.specs.Entries.{Carriers, CarrierPairs, listed_entry, listed_is, allowed_entry, allows_is, lists_small, rules_small}
@@ -64,10 +64,10 @@ pub record GotCarriers (s : List ℕ) (p k p₁ : ℕ) : Type 0 where
   pub few : k ≤ most_carriers
 
 module _ (s : List ℕ) (p : ℕ) where
-  pub no_carriers : {f : Fault} → Number.Refused f ≡ tell_number (count 1 most_carriers s p) → job_sheet s p ≡ refused f
+  pub no_carriers : {f : Fault} → Err f ≡ tell_number (count 1 most_carriers s p) → job_sheet s p ≡ refused f
   no_carriers e = whole s p ∙ rw (number_refused (count 1 most_carriers s p) e)
 
-  pub carriers_got : {k p₁ : ℕ} → Number.Read k p₁ ≡ tell_number (count 1 most_carriers s p) → GotCarriers s p k p₁
+  pub carriers_got : {k p₁ : ℕ} → Ok (k, p₁) ≡ tell_number (count 1 most_carriers s p) → GotCarriers s p k p₁
   carriers_got e = record { read = number_got (count 1 most_carriers s p) e; few = count_most s p 1 most_carriers e }
 
 -- ---- the risers
@@ -86,11 +86,11 @@ section_small : (k : ℕ) (s : List ℕ) (p : ℕ) {ls : List (List ℕ)} {next 
 unfolding section
 section_small k s p w e = let z = and_then_got (count 1 most_risers s p) _ e in lists_small k s z.0 z.1 w z.3
 
-module _ (s : List ℕ) (p : ℕ) {k p₁ : ℕ} (C : GotCarriers s p k p₁) (M₀ : List ℕ) {M : List ℕ} {r : Number} (a : Answers tell_count (section 1 most_risers (riser k) s p₁) r (λ (l : List (List ℕ)). M ≡ mark_lists M₀ l)) where
-  pub no_risers : {f : Fault} → r ≡ Number.Refused f → job_sheet s p ≡ refused f
+module _ (s : List ℕ) (p : ℕ) {k p₁ : ℕ} (C : GotCarriers s p k p₁) (M₀ : List ℕ) {M : List ℕ} {r : Result (ℕ × ℕ) Fault} (a : Answers tell_count (section 1 most_risers (riser k) s p₁) r (λ (l : List (List ℕ)). M ≡ mark_lists M₀ l)) where
+  pub no_risers : {f : Fault} → r ≡ Err f → job_sheet s p ≡ refused f
   no_risers e = whole s p ∙ rw (C.read, count_refused a e)
 
-  pub risers_got : {n p₂ : ℕ} → M₀ ≡ replicate (most_risers * most_carriers) 0 → r ≡ Number.Read n p₂ → GotRisers s p k n p₂ M
+  pub risers_got : {n p₂ : ℕ} → M₀ ≡ replicate (most_risers * most_carriers) 0 → r ≡ Ok (n, p₂) → GotRisers s p k n p₂ M
   risers_got {n} {p₂} b e =
       let g = count_got a e in
       record {
@@ -132,14 +132,14 @@ section_ascends : (n : ℕ) (M : List ℕ) (s : List ℕ) (p : ℕ) {rs : List R
 unfolding section
 section_ascends n M s p w e = let z = and_then_got (count 0 most_rules s p) _ e in rules_ascend n (is_listed M) s z.0 z.1 w z.3
 
-module _ (s : List ℕ) (p : ℕ) {k n p₂ : ℕ} {M : List ℕ} (L : GotRisers s p k n p₂ M) (T₀ E₀ : List ℕ) {T E : List ℕ} {r : Number} (a : Answers tell_count (section 0 most_rules (rule n (is_listed M)) s p₂) r (λ (l : List Rule). rule_tables T E ≡ mark_rules (rule_tables T₀ E₀) l)) where
+module _ (s : List ℕ) (p : ℕ) {k n p₂ : ℕ} {M : List ℕ} (L : GotRisers s p k n p₂ M) (T₀ E₀ : List ℕ) {T E : List ℕ} {r : Result (ℕ × ℕ) Fault} (a : Answers tell_count (section 0 most_rules (rule n (is_listed M)) s p₂) r (λ (l : List Rule). rule_tables T E ≡ mark_rules (rule_tables T₀ E₀) l)) where
   same_rules : section 0 most_rules (rule n (is_listed_in L.ls)) s p₂ ≡ section 0 most_rules (rule n (is_listed M)) s p₂
   same_rules = ap (λ (f : ℕ → ℕ → Bool). section 0 most_rules (rule n f) s p₂) (sym (says_listed L))
 
-  pub no_rules : {f : Fault} → r ≡ Number.Refused f → job_sheet s p ≡ refused f
+  pub no_rules : {f : Fault} → r ≡ Err f → job_sheet s p ≡ refused f
   no_rules e = risers_read L ∙ rw (same_rules ∙ count_refused a e)
 
-  pub rules_got : {m p₃ : ℕ} → T₀ ≡ replicate (most_rules * most_pairs) 0 → E₀ ≡ replicate (most_risers * most_risers) 0 → r ≡ Number.Read m p₃ → GotRules s p k n m p₃ M T E
+  pub rules_got : {m p₃ : ℕ} → T₀ ≡ replicate (most_rules * most_pairs) 0 → E₀ ≡ replicate (most_risers * most_risers) 0 → r ≡ Ok (m, p₃) → GotRules s p k n m p₃ M T E
   rules_got {m} {p₃} b d e =
       let g = count_got a e in
       record {
@@ -181,14 +181,14 @@ pub record GotSwaps (s : List ℕ) (p k n m c p₄ : ℕ) (M T E : List ℕ) (G 
   pub number : length gs ≡ c
   pub table : G ≡ map (padded most_carriers) gs ++ replicate (most_swaps - length gs) (identity most_carriers)
 
-module _ (s : List ℕ) (p : ℕ) {k n m p₃ : ℕ} {M T E : List ℕ} (R : GotRules s p k n m p₃ M T E) (G₀ : List (List ℕ)) {G : List (List ℕ)} {r : Number} (a : Answers tell_count (section 0 most_swaps (swap k n m (is_listed M) (is_allowed T)) s p₃) r (λ (l : List (List ℕ)). G ≡ put_all put_swap G₀ 0 l)) where
+module _ (s : List ℕ) (p : ℕ) {k n m p₃ : ℕ} {M T E : List ℕ} (R : GotRules s p k n m p₃ M T E) (G₀ : List (List ℕ)) {G : List (List ℕ)} {r : Result (ℕ × ℕ) Fault} (a : Answers tell_count (section 0 most_swaps (swap k n m (is_listed M) (is_allowed T)) s p₃) r (λ (l : List (List ℕ)). G ≡ put_all put_swap G₀ 0 l)) where
   same_swaps : section 0 most_swaps (swap k n m (is_listed_in R.risers.ls) (allowed_by R.rs)) s p₃ ≡ section 0 most_swaps (swap k n m (is_listed M) (is_allowed T)) s p₃
   same_swaps = ap₂ (λ (f : ℕ → ℕ → Bool) (h : ℕ → ℕ → ℕ → Bool). section 0 most_swaps (swap k n m f h) s p₃) (sym (says_listed R.risers)) (sym (says_allowed R))
 
-  pub no_swaps : {f : Fault} → r ≡ Number.Refused f → job_sheet s p ≡ refused f
+  pub no_swaps : {f : Fault} → r ≡ Err f → job_sheet s p ≡ refused f
   no_swaps e = rules_read R ∙ rw (same_swaps ∙ count_refused a e)
 
-  pub swaps_got : {c p₄ : ℕ} → G₀ ≡ replicate most_swaps (identity most_carriers) → r ≡ Number.Read c p₄ → GotSwaps s p k n m c p₄ M T E G
+  pub swaps_got : {c p₄ : ℕ} → G₀ ≡ replicate most_swaps (identity most_carriers) → r ≡ Ok (c, p₄) → GotSwaps s p k n m c p₄ M T E G
   swaps_got {c} {p₄} b e =
       let g = count_got a e in
       record {
@@ -206,14 +206,13 @@ module _ (s : List ℕ) (p : ℕ) {k n m c p₄ : ℕ} {M T E : List ℕ} {G : L
   swaps_read : job_sheet s p ≡ last s k W.rules.risers.ls W.rules.rs W.gs p₄
   swaps_read = rules_read W.rules ∙ rw W.read
 
-  pub more_bytes : (p₄ ≡ length s → ⊥) → job_sheet s p ≡ refused (fault bytes_follow p₄)
-  unfolding nothing_more
-  more_bytes e = swaps_read ∙ rw (ne_eqb p₄ (length s) e)
+  pub more_bytes : {f : Fault} → nothing_more s p₄ ≡ refused f → job_sheet s p ≡ refused f
+  more_bytes e = swaps_read ∙ rw e
 
   abbrev whole_sheet : Sheet
   whole_sheet = record { carriers = k; lists = W.rules.risers.ls; rules = W.rules.rs; swaps = W.gs }
 
-  serves : Serves whole_sheet M T E G
+  serves : Serves whole_sheet (tables M T E) G
   serves =
       let L = W.rules.risers in
       let R = W.rules in
@@ -231,17 +230,16 @@ module _ (s : List ℕ) (p : ℕ) {k n m c p₄ : ℕ} {M T E : List ℕ} {G : L
         swaps_are = W.table;
       }
 
-  pub all_read : p₄ ≡ length s → Answers tell_sheet (job_sheet s p) (Head.Accepted k n m c) (λ (X : Sheet). Serves X M T E G)
-  unfolding nothing_more
-  all_read e =
-      let y : Answers tell_sheet (job_sheet s p) (tell_sheet (got whole_sheet p₄)) (λ (X : Sheet). Serves X M T E G) = answer_got tell_sheet {x = whole_sheet} {p = p₄} (swaps_read ∙ rw (eq-eqb p₄ (length s) e)) serves in
-      subst (λ (v : ℕ × ℕ × ℕ). Answers tell_sheet (job_sheet s p) (Head.Accepted k v.0 v.1 v.2) (λ (X : Sheet). Serves X M T E G)) (λ i. (W.rules.risers.number i, W.rules.number i, W.number i)) y
+  pub all_read : {u : Unit} {q : ℕ} → nothing_more s p₄ ≡ got u q → Answers tell_sheet (job_sheet s p) (Ok (record { carriers = k; risers = n; rules = m; swaps = c })) (λ (X : Sheet). Serves X (tables M T E) G)
+  all_read {u} {q} e =
+      let y : Answers tell_sheet (job_sheet s p) (tell_sheet (got whole_sheet q)) (λ (X : Sheet). Serves X (tables M T E) G) = answer_got tell_sheet {x = whole_sheet} {p = q} (swaps_read ∙ rw e) serves in
+      subst (λ (v : ℕ × ℕ × ℕ). Answers tell_sheet (job_sheet s p) (Ok (record { carriers = k; risers = v.0; rules = v.1; swaps = v.2 })) (λ (X : Sheet). Serves X (tables M T E) G)) (λ i. (W.rules.risers.number i, W.rules.number i, W.number i)) y
 
 -- ---- the tables blank before, and again after a refusal
 
-module _ {s : List ℕ} {p : ℕ} {M T E : List ℕ} {G : List (List ℕ)} {r : Head} (a : Answers tell_sheet (job_sheet s p) r (λ (X : Sheet). Serves X M T E G)) where
-  pub reads_accepted : {k n m c : ℕ} → r ≡ Head.Accepted k n m c → Reads s p (Head.Accepted k n m c) M T E G
-  reads_accepted e = record { told = sym e ∙ a.told; serves = a.leaves; blank = λ f h. absurd (let z : _ ≡ Head.Refused f = sym e ∙ a.told ∙ ap tell_sheet h in let b : ◌≡◌ {A = ℕ} 0 1 = cc in omega arith) }
+module _ {s : List ℕ} {p : ℕ} {T : Tables} {G : List (List ℕ)} {r : Result Head Fault} (a : Answers tell_sheet (job_sheet s p) r (λ (X : Sheet). Serves X T G)) where
+  pub reads_accepted : is_err r ≡ false → Reads s p r T G
+  reads_accepted e = record { told = a.told; serves = a.leaves; blank = λ f g. let z = sym e ∙ ap is_err (a.told ∙ ap tell_sheet g) in cc }
 
-  pub reads_refused : {M' T' E' : List ℕ} {G' : List (List ℕ)} {f : Fault} → r ≡ Head.Refused f → Blank M' T' E' G' → Reads s p (Head.Refused f) M' T' E' G'
-  reads_refused {f = f} e b = record { told = sym e ∙ a.told; serves = λ X n h. absurd (let z : Head.Refused f ≡ tell_sheet (got X n) = sym e ∙ a.told ∙ ap tell_sheet h in let b : ◌≡◌ {A = ℕ} 0 1 = cc in omega arith); blank = λ _ _. b }
+  pub reads_refused : {T' : Tables} {G' : List (List ℕ)} → is_err r ≡ true → Blank T' G' → Reads s p r T' G'
+  reads_refused e b = record { told = a.told; serves = λ X n g. let z = sym e ∙ ap is_err (a.told ∙ ap tell_sheet g) in cc; blank = λ _ _. b }

@@ -2,121 +2,115 @@
 // list, then keep each rule; it is entered into the table of swaps with the carriers from k on staying.
 #![tactic(auto)]
 
-ghost use Rattle.std.specs.Prelude.{◌≡◌, List, [], ℕ, ◌+◌, ◌≤◌, ◌<◌, length, take, drop};
-ghost use Rattle.ground.specs.Meanings.Sheet.{many, swap, most_carriers, most_swaps};
+ghost use Rattle.std.specs.Prelude.{◌≡◌, List, [], ℕ, ◌+◌, ◌≤◌, ◌<◌, length, take, drop, MatchResult};
+ghost use Rattle.ground.specs.Meanings.Sheet.{fault, sheet_ends, many, swap, most_carriers, most_swaps};
 ghost use Rattle.fields.specs.Tables.{is_listed, is_allowed, padded, put_swap, put_all};
 ghost use Rattle.fields.specs.Answers.{Answers, tell_section, tell_count};
 ghost use Rattle.fields.specs.Sections.{section};
+ghost use Rattle.swap_fields.specs.Swaps.{tell_swap};
 
-use fields::{Number, Section, count_at};
-use ground::{
-    ALLOWED, CARRIERS, Fault, LIST_NOT_KEPT, LISTED, NO_PERMUTATION, RULE_NOT_KEPT, SHEET_ENDS,
-    SWAPS,
-};
+use fields::count_at;
+use ground::{ALLOWED, CARRIERS, Fault, LISTED, Refusal, SWAPS};
 use swap_tests::{first_riser_out, first_rule_out};
+use swaps::{Swap, is_permutation};
 
-// The k bytes of a swap from a place on, and after them the carriers that stay.
-fn padded_swap(s: &[u8], at: usize, k: usize) -> [u8; CARRIERS]
-    requires { (at + k ≤ length s.now) × (k ≤ most_carriers) }
-    ensures { result ≡ padded most_carriers (take k (drop at s.now)) }
+// The k bytes from a place on, if the sheet has them.
+fn bytes_at(s: &[u8], at: usize, k: usize) -> Result<&[u8], Fault>
+    ensures { MatchResult result
+        (λ bytes. (at + k ≤ length s.now) × (bytes.now ≡ take k (drop at s.now)))
+        (λ f. (length s.now < at + k) × (f ≡ fault sheet_ends at)) }
 {
-    let stay = swaps::Swap::identity();
-    let mut g = stay.to;
-    for j in 0..k {
-        g[j] = s[at + j];
-    }
+    s.get(at..)
+        .and_then(|rest| rest.get(..k))
+        .ok_or(Fault::at(Refusal::SheetEnds, at))
+}
+
+// The bytes of a swap, and after them the carriers that stay.
+fn padded_swap(bytes: &[u8]) -> [u8; CARRIERS]
+    requires { length bytes.now ≤ most_carriers }
+    ensures { result ≡ padded most_carriers bytes.now }
+{
+    let mut g = Swap::identity().to;
+    g[..bytes.len()].copy_from_slice(bytes);
     g
 }
 
-// Swap i: that it is a permutation, then that it keeps each riser's list, then that it keeps each rule.
-fn read_swap(
-    s: &[u8],
-    at: usize,
-    k: usize,
-    n: usize,
+// What a sheet says before its swaps, by which they are tested: how many carriers, risers and rules it has, its lists and its pairs.
+#[derive(Clone, Copy)]
+struct Before<'a> {
+    carriers: usize,
+    risers: usize,
     rules: usize,
-    i: usize,
-    member: &[u8; LISTED],
-    allowed: &[u8; ALLOWED],
-    swaps: &mut [[u8; CARRIERS]; SWAPS],
-) -> Section
-    requires { (k ≤ most_carriers) × (i < most_swaps) }
-    ensures { Answers tell_section (swap k n rules (is_listed member.now) (is_allowed allowed.now) [] s.now at) result (λ (g : List ℕ). swaps.new ≡ put_swap swaps.old i g) }
-{
-    if s.len() < at {
-        return Section::Refused(Fault::of(SHEET_ENDS, at));
-    }
-    if s.len() - at < k {
-        return Section::Refused(Fault::of(SHEET_ENDS, at));
-    }
-    let end = at + k;
-    let permutation = swaps::is_permutation(&s[at..end]);
-    if !permutation {
-        return Section::Refused(Fault::of(NO_PERMUTATION, at));
-    }
-    let g = padded_swap(s, at, k);
-    let r = first_riser_out(g, k, n, member);
-    if r != n {
-        return Section::Refused(Fault::of(LIST_NOT_KEPT, at));
-    }
-    let q = first_rule_out(g, k, rules, allowed);
-    if q != rules {
-        return Section::Refused(Fault::of(RULE_NOT_KEPT, at));
-    }
-    swaps[i] = g;
-    Section::Read(end)
+    listed: &'a [u8; LISTED],
+    allowed: &'a [u8; ALLOWED],
+    ghost few: { carriers ≤ most_carriers },
 }
 
-// The swaps.
-fn read_swaps(
-    s: &[u8],
-    from: usize,
-    k: usize,
-    n: usize,
-    rules: usize,
-    count: usize,
-    member: &[u8; LISTED],
-    allowed: &[u8; ALLOWED],
-    swaps: &mut [[u8; CARRIERS]; SWAPS],
-) -> Section
-    requires { (k ≤ most_carriers) × (count ≤ most_swaps) }
-    ensures { Answers tell_section (many (swap k n rules (is_listed member.now) (is_allowed allowed.now)) count [] s.now from) result (λ (l : List (List ℕ)). swaps.new ≡ put_all put_swap swaps.old 0 l) }
-{
-    let mut at = from;
-    for i in 0..count {
-        match read_swap(s, at, k, n, rules, i, member, allowed, swaps) {
-            Section::Refused(fault) => {
-                return Section::Refused(fault);
-            }
-            Section::Read(next) => {
-                at = next;
-            }
+impl Before<'_> {
+    // A swap: that it is a permutation, then that it keeps each riser's list, then that it keeps each rule. The answer is the swap, and
+    // the place after it.
+    fn read_swap(&self, s: &[u8], at: usize) -> Result<([u8; CARRIERS], usize), Fault>
+        ensures { result ≡ tell_swap (swap self.now.carriers self.now.risers self.now.rules (is_listed self.now.listed.now) (is_allowed self.now.allowed.now) [] s.now at) }
+    {
+        let k = self.carriers;
+        let bytes = bytes_at(s, at, k)?;
+        if !is_permutation(bytes) {
+            return Err(Fault::at(Refusal::NoPermutation, at));
         }
+        let g = padded_swap(bytes);
+        if first_riser_out(g, k, self.risers, self.listed).is_some() {
+            return Err(Fault::at(Refusal::ListNotKept, at));
+        }
+        if first_rule_out(g, k, self.rules, self.allowed).is_some() {
+            return Err(Fault::at(Refusal::RuleNotKept, at));
+        }
+        Ok((g, at + k))
     }
-    Section::Read(at)
+
+    // As many swaps as there is room for. The answer is the place after them. (A loop of its own, as each run of items has: crate
+    // `fields`.)
+    fn read_swaps(
+        &self,
+        s: &[u8],
+        from: usize,
+        swaps: &mut [[u8; CARRIERS]],
+    ) -> Result<usize, Fault>
+        ensures { Answers tell_section (many (swap self.now.carriers self.now.risers self.now.rules (is_listed self.now.listed.now) (is_allowed self.now.allowed.now)) (length swaps.old) [] s.now from) result (λ (l : List (List ℕ)). swaps.new ≡ put_all put_swap swaps.old 0 l) }
+    {
+        let mut at = from;
+        for swap in swaps {
+            let (g, next) = self.read_swap(s, at)?;
+            *swap = g;
+            at = next;
+        }
+        Ok(at)
+    }
 }
 
-// The swaps' section: their count, then as many swaps.
+// The swaps' section: their count, then as many swaps. The answer is how many swaps there are, and the place after the section.
+// What is said before the swaps is packed into `Before` here and not by the caller, since `Before` holds at most 15 carriers, as this
+// function's own clause asks. (The bytes and the place are two parameters, as in crate `fields`.)
 pub fn swaps_section(
     s: &[u8],
     at: usize,
     k: usize,
     n: usize,
     rules: usize,
-    member: &[u8; LISTED],
+    listed: &[u8; LISTED],
     allowed: &[u8; ALLOWED],
     swaps: &mut [[u8; CARRIERS]; SWAPS],
-) -> Number
+) -> Result<(usize, usize), Fault>
     requires { k ≤ most_carriers }
-    ensures { Answers tell_count (section 0 most_swaps (swap k n rules (is_listed member.now) (is_allowed allowed.now)) s.now at) result (λ (l : List (List ℕ)). swaps.new ≡ put_all put_swap swaps.old 0 l) }
+    ensures { Answers tell_count (section 0 most_swaps (swap k n rules (is_listed listed.now) (is_allowed allowed.now)) s.now at) result (λ (l : List (List ℕ)). swaps.new ≡ put_all put_swap swaps.old 0 l) }
 {
-    match count_at(s, at, 0, SWAPS) {
-        Number::Refused(fault) => Number::Refused(fault),
-        Number::Read(count, first) => {
-            match read_swaps(s, first, k, n, rules, count, member, allowed, swaps) {
-                Section::Refused(fault) => Number::Refused(fault),
-                Section::Read(next) => Number::Read(count, next),
-            }
-        }
-    }
+    let (count, first) = count_at(s, at, 0, SWAPS)?;
+    let before = Before {
+        carriers: k,
+        risers: n,
+        rules,
+        listed,
+        allowed,
+    };
+    let next = before.read_swaps(s, first, &mut swaps[..count])?;
+    Ok((count, next))
 }

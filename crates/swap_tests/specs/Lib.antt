@@ -1,4 +1,4 @@
 -- The laws that the tests of a swap cite.
 --
---   Tests      what is asked of one carrier and of one pair, and the first of several that fails
+--   Tests      what the tables have no entry of, and the first of several tests that fails
 pub mod Tests

@@ -2,12 +2,15 @@
 //
 // A swap has 15 entries whatever the sheet's number of carriers; carriers that the sheet does not have stay. No function
 // asks anything of its caller: each promise holds for all bytes, and is the definition that it names.
+// `as` stands where a number is proved small enough, or where a size is made 64 bits wide: `From` has neither.
 #![tactic(auto)]
 
 ghost use Rattle.std.specs.Prelude.{◌≡◌, ◌&&◌, [], leb, length};
 ghost use Rattle.ground.specs.Meanings.Group.{at, mul, identity, move};
 ghost use Rattle.ground.specs.Meanings.Sheet.{all_new};
 ghost use Rattle.ground.specs.Laws.Permutations.{inv};
+
+use std::array;
 
 // A swap: entry c is the carrier that carrier c goes to.
 #[derive(Clone, Copy)]
@@ -23,65 +26,49 @@ impl Swap {
     pub fn identity() -> Swap
         ensures { result.to ≡ identity 15 }
     {
-        let mut to = [0u8; 15];
-        for i in 0..Swap::WIDTH {
-            to[i] = i as u8;
+        Swap {
+            to: array::from_fn(|c| c as u8),
         }
-        Swap { to }
     }
 }
 
-// A byte as an index.
-pub fn index_of_byte(byte: u8) -> usize
-    ensures { result ≡ byte }
+// The carrier that g takes c to; 0 for what is no carrier, as `at` has it.
+fn taken(g: &[u8; 15], c: u8) -> u8
+    ensures { result ≡ at g.now c }
 {
-    byte as usize
-}
-
-// The carrier that g takes c to; 0 for what is no carrier.
-fn taken(g: [u8; 15], c: u8) -> u8
-    ensures { result ≡ at g c }
-{
-    let i = c as usize;
-    if i < Swap::WIDTH { g[i] } else { 0 }
+    g.get(usize::from(c)).copied().unwrap_or(0)
 }
 
 // First p, then q.
 pub fn product(p: [u8; 15], q: [u8; 15]) -> [u8; 15]
     ensures { result ≡ mul p q }
 {
-    let mut r = [0u8; 15];
-    for i in 0..Swap::WIDTH {
-        let c = p[i] as usize;
-        if c < Swap::WIDTH {
-            r[i] = q[c];
-        }
-    }
-    r
+    let mut both = p;
+    move_row(q, &mut both);
+    both
 }
 
-// What undoes p: where each carrier comes from.
+// What undoes p: where each carrier comes from, and 15 where none does (`inv`). The places are gone along from the last, so that of two
+// with one carrier the first stands.
 pub fn inverse(p: [u8; 15]) -> [u8; 15]
     ensures { result ≡ inv 15 p }
 {
-    let mut r = [15u8; 15];
-    let mut i = Swap::WIDTH;
-    while 0 < i {
-        i -= 1;
-        let c = p[i] as usize;
+    let mut from = [15; 15];
+    for (place, c) in p.iter().enumerate().rev() {
+        let c = usize::from(*c);
         if c < Swap::WIDTH {
-            r[c] = i as u8;
+            from[c] = place as u8;
         }
     }
-    r
+    from
 }
 
 // Applies g to each carrier of the row.
 pub fn move_row(g: [u8; 15], row: &mut [u8])
     ensures { row.new ≡ move g row.old }
 {
-    for i in 0..row.len() {
-        row[i] = taken(g, row[i]);
+    for c in row.iter_mut() {
+        *c = taken(&g, *c);
     }
 }
 
@@ -93,16 +80,13 @@ pub fn is_permutation(bytes: &[u8]) -> bool
     if Swap::WIDTH < k {
         return false;
     }
-    let mut marks = [0u8; 15];
-    for i in 0..bytes.len() {
-        let c = bytes[i] as usize;
-        if k <= c {
+    let mut stood = [false; 15];
+    for c in bytes {
+        let c = usize::from(*c);
+        if k <= c || stood[c] {
             return false;
         }
-        if marks[c] == 1 {
-            return false;
-        }
-        marks[c] = 1;
+        stood[c] = true;
     }
     true
 }

@@ -6,7 +6,8 @@ use std::io;
 use std::io::Read;
 
 // Reads until the list is full or the input ends, and answers how many bytes were put at the start of the list. A read that fails ends
-// it, also one that a signal cut short before a byte came.
+// it, also one that a signal cut short before a byte came. Each read puts as many bytes as it likes, so that there is nothing for a
+// `for` to go over.
 pub fn read_full<R: Read>(input: &mut R, list: &mut [u8]) -> io::Result<usize>
     ensures within { IfOk result (λ count. count ≤ length list.new) }
     ensures bytes { IfOk result (λ count. Consumes (R.remaining input.old) (R.remaining input.new) (take count list.new)) }

@@ -18,24 +18,44 @@
 // there may be several, but what it makes of the row, and then whether it is a permutation. A question of a kind that is not known is
 // answered `? no such kind`, and is the last, since nobody knows where the next begins.
 //
-// A further kind is a row above, a number below, an arm of `answer`, and a function like `listing_trial`. A read or a write that fails
+// A further kind is a row above, a variant of `Kind` with its number, an arm of `answer`, and a function like `listing_trial`. A read or a write that fails
 // ends the program with that error.
+// `as` stands where a number is proved small enough, or where a size is made 64 bits wide: `From` has neither.
 #![tactic(auto)]
 
-ghost use Rattle.std.specs.Prelude.{◌≡◌, ◌<◌, ◌≤◌};
+ghost use Rattle.std.specs.Prelude.{◌≡◌, ◌<◌};
 ghost use Rattle.text.specs.Digits.{hex_digit_ascii};
 
 use folding::fold;
-use ground::{ACCEPTED, Fault, LONGEST};
+use ground::{Fault, LONGEST, Told};
 use listing::list;
 use std::io;
 use std::io::{Read, Write};
-use text::{end_line, put, put_number, read_full};
+use text::{Page, read_full};
 
 // The kinds of questions.
-const LIST: u8 = 0;
+#[derive(Clone, Copy)]
+enum Kind {
+    List,
+    Fold,
+}
 
-const FOLD: u8 = 1;
+// What is no kind.
+#[derive(Clone, Copy)]
+struct NoSuchKind;
+
+// The kind of a number.
+impl TryFrom<u8> for Kind {
+    type Error = NoSuchKind;
+
+    fn try_from(number: u8) -> Result<Kind, NoSuchKind> {
+        match number {
+            0 => Ok(Kind::List),
+            1 => Ok(Kind::Fold),
+            _ => Err(NoSuchKind),
+        }
+    }
+}
 
 // The length of a question's head.
 const HEAD: usize = 16;
@@ -58,16 +78,62 @@ const LINE: usize = 8192;
 // More than there are questions.
 const TURNS: usize = 100000;
 
+// A question's head: its kind, what the lent lists are filled from, the lengths of the sheet and of both lists, and the number.
+#[derive(Clone, Copy)]
+struct Head {
+    kind: u8,
+    from: u8,
+    sheet: usize,
+    first: usize,
+    second: usize,
+    number: u64,
+}
+
+impl Head {
+    // What the bytes of a head say.
+    fn of(bytes: &[u8; HEAD]) -> Head {
+        let [
+            kind,
+            from,
+            sheet,
+            sheet_high,
+            first,
+            first_high,
+            second,
+            second_high,
+            ..
+        ] = *bytes;
+        let mut number = [0u8; 8];
+        number.copy_from_slice(&bytes[8..]);
+        Head {
+            kind,
+            from,
+            sheet: length([sheet, sheet_high]),
+            first: length([first, first_high]),
+            second: length([second, second_high]),
+            number: u64::from_le_bytes(number),
+        }
+    }
+
+    // The length of the row to fold, which the number is.
+    fn row(self) -> usize {
+        (self.number & 0xffff) as usize
+    }
+}
+
+// A length that has two bytes.
+fn length(bytes: [u8; 2]) -> usize {
+    usize::from(u16::from_le_bytes(bytes))
+}
+
 // Asks one question after another.
 fn main(rt: HostRuntime) -> io::Result<()> {
     let mut input = rt.reader();
     let mut out = io::writer(&rt);
-    let mut turns = TURNS;
-    while 0 < turns {
+    for _ in 0..TURNS {
         if !trial(&mut input, &mut out)? {
-            return Ok(());
+            break;
         }
-        turns -= 1;
     }
     Ok(())
 }
@@ -75,119 +141,100 @@ fn main(rt: HostRuntime) -> io::Result<()> {
 // Asks the next question and prints its answer; false where there is no next one that can be asked.
 fn trial(input: &mut impl Read, out: &mut impl Write) -> io::Result<bool> {
     let mut head = [0u8; HEAD];
-    let mut sheet = [0u8; SHEET];
-    if !read(input, &mut head, HEAD)? {
+    let mut bytes = [0u8; SHEET];
+    if read_full(input, &mut head)? < HEAD {
         return Ok(false);
     }
-    let length = two(head[2], head[3]);
-    if !read(input, &mut sheet, length)? {
-        return Ok(false);
+    let head = Head::of(&head);
+    match read(input, &mut bytes, head.sheet)? {
+        Some(sheet) => answer(input, out, head, sheet),
+        None => Ok(false),
     }
-    answer(input, out, &head, start(&sheet, length))
 }
 
 // Asks a question of the kind that its head says, and prints its answer; false where it is not whole, or of a kind that is not known.
 fn answer(
     input: &mut impl Read,
     out: &mut impl Write,
-    head: &[u8; HEAD],
+    head: Head,
     sheet: &[u8],
 ) -> io::Result<bool> {
-    match head[0] {
-        LIST => listing_trial(out, head, sheet),
-        FOLD => folding_trial(input, out, head, sheet),
-        _ => unknown(out),
+    match Kind::try_from(head.kind) {
+        Ok(Kind::List) => listing_trial(out, head, sheet),
+        Ok(Kind::Fold) => folding_trial(input, out, head, sheet),
+        Err(NoSuchKind) => {
+            writeln!(out, "? no such kind")?;
+            Ok(false)
+        }
     }
 }
 
-// Says that a kind is not known.
-fn unknown(out: &mut impl Write) -> io::Result<bool> {
-    out.write_all(b"? no such kind\n")?;
-    Ok(false)
-}
-
-// Reads so many bytes into the start of a list; false where fewer are left, or the list is too short.
-fn read(input: &mut impl Read, list: &mut [u8], length: usize) -> io::Result<bool> {
+// Reads so many bytes into the start of a list, and gives them; none where fewer are left, or the list is too short.
+fn read<'a>(
+    input: &mut impl Read,
+    list: &'a mut [u8],
+    length: usize,
+) -> io::Result<Option<&'a [u8]>> {
     if list.len() < length {
-        return Ok(false);
+        return Ok(None);
     }
-    let count = read_full(input, &mut list[0..length])?;
-    Ok(count == length)
+    if read_full(input, &mut list[..length])? < length {
+        return Ok(None);
+    }
+    Ok(Some(&list[..length]))
 }
 
-// So many bytes from the start of a list, or the whole list where it is shorter.
-fn start(list: &[u8], length: usize) -> &[u8] {
-    if length <= list.len() {
-        &list[0..length]
-    } else {
-        list
-    }
-}
-
-// Lists the sheet as the head says, and prints the answer.
-fn listing_trial(out: &mut impl Write, head: &[u8; HEAD], sheet: &[u8]) -> io::Result<bool> {
+// Lists the sheet as the head says, and prints the answer; false where the head asks for longer lists than there are. (A yes or no says
+// whether to go on, here and below; an enum of two names would say no more.)
+fn listing_trial(out: &mut impl Write, head: Head, sheet: &[u8]) -> io::Result<bool> {
     let mut bytes = [0u8; BYTES];
     let mut sizes = [0u64; SIZES];
-    let first = two(head[4], head[5]);
-    let second = two(head[6], head[7]);
-    if BYTES < first {
+    if BYTES < head.first || SIZES < head.second {
         return Ok(false);
     }
-    if SIZES < second {
-        return Ok(false);
-    }
-    fill_bytes(&mut bytes, head[1]);
-    fill_sizes(&mut sizes, head[1]);
+    fill(&mut bytes, head.from, |byte| byte.wrapping_add(37));
+    fill(&mut sizes, u64::from(head.from), |size| {
+        size.wrapping_add(11400714819323198485)
+    });
     print_listing(
         out,
         sheet,
-        eight(head),
-        &mut bytes[0..first],
-        &mut sizes[0..second],
+        head.number,
+        &mut bytes[..head.first],
+        &mut sizes[..head.second],
     )?;
     Ok(true)
 }
 
-// Reads the row that comes next, folds it as the head says, and prints the answer.
+// Reads the row that comes next, folds it as the head says, and prints the answer; false where the row is cut short.
 fn folding_trial(
     input: &mut impl Read,
     out: &mut impl Write,
-    head: &[u8; HEAD],
+    head: Head,
     sheet: &[u8],
 ) -> io::Result<bool> {
-    let mut row = [0u8; ROW];
-    let length = two(head[8], head[9]);
-    if !read(input, &mut row, length)? {
-        return Ok(false);
+    let mut carriers = [0u8; ROW];
+    match read(input, &mut carriers, head.row())? {
+        Some(row) => row_trial(out, head, sheet, row),
+        None => Ok(false),
     }
-    row_trial(out, head, sheet, start(&row, length))
 }
 
-// Folds a row as the head says, and prints the answer.
-fn row_trial(
-    out: &mut impl Write,
-    head: &[u8; HEAD],
-    sheet: &[u8],
-    row: &[u8],
-) -> io::Result<bool> {
+// Folds a row as the head says, and prints the answer; false where the head asks for longer buffers than there are.
+fn row_trial(out: &mut impl Write, head: Head, sheet: &[u8], row: &[u8]) -> io::Result<bool> {
     let mut first = [0u8; BYTES];
     let mut member = [0u8; BYTES];
-    let first_length = two(head[4], head[5]);
-    let member_length = two(head[6], head[7]);
-    if BYTES < first_length {
+    if BYTES < head.first || BYTES < head.second {
         return Ok(false);
     }
-    if BYTES < member_length {
-        return Ok(false);
-    }
-    fill_bytes(&mut first, head[1]);
-    fill_bytes(&mut member, head[1]);
+    fill(&mut first, head.from, |byte| byte.wrapping_add(37));
+    fill(&mut member, head.from, |byte| byte.wrapping_add(37));
     print_folding(
         out,
         sheet,
         row,
-        &mut first[0..first_length],
-        &mut member[0..member_length],
+        &mut first[..head.first],
+        &mut member[..head.second],
     )?;
     Ok(true)
 }
@@ -200,16 +247,19 @@ fn print_listing(
     bytes: &mut [u8],
     sizes: &mut [u64],
 ) -> io::Result<()> {
-    let answer = list(sheet, allowance, bytes, sizes);
+    let (refused, counted) = match list(sheet, allowance, bytes, sizes) {
+        Ok(counted) => (None, counted),
+        Err(refused) => (Some(refused.fault()), refused.listed()),
+    };
     let mut line = [0u8; LINE];
-    let mut at = put_fault(&mut line, answer.fault);
-    at = put_next(&mut line, at, answer.listed as u64);
-    at = put_next(&mut line, at, answer.opened);
-    at = put_next(&mut line, at, answer.total);
-    at = put_bytes(&mut line, at, bytes);
-    at = put_sizes(&mut line, at, sizes);
-    end_line(out, &mut line, at, LINE)?;
-    Ok(())
+    let mut line = Page::new(&mut line);
+    put_told(&mut line, refused);
+    put_next(&mut line, counted.listed as u64);
+    put_next(&mut line, counted.opened);
+    put_next(&mut line, counted.total);
+    put_bytes(&mut line, bytes);
+    put_sizes(&mut line, sizes);
+    line.end_line(out, LINE)
 }
 
 // Folds the row, and prints the answer with the first buffer as it is then.
@@ -220,79 +270,51 @@ fn print_folding(
     first: &mut [u8],
     member: &mut [u8],
 ) -> io::Result<()> {
-    let answer = fold(sheet, row, first, member);
+    let (refused, size) = match fold(sheet, row, first, member) {
+        Ok(size) => (None, size),
+        Err(fault) => (Some(fault), 0),
+    };
+    let accepted = refused.is_none();
     let mut line = [0u8; LINE];
-    let fault = answer.fault;
-    let number = fault.number;
-    let mut at = put_fault(&mut line, fault);
-    at = put_next(&mut line, at, answer.size);
-    at = put_bytes(&mut line, at, first);
-    at = put_member(&mut line, at, member, row, number);
-    end_line(out, &mut line, at, LINE)?;
-    Ok(())
+    let mut line = Page::new(&mut line);
+    put_told(&mut line, refused);
+    put_next(&mut line, size);
+    put_bytes(&mut line, first);
+    if accepted {
+        put_member(&mut line, member, row);
+    } else {
+        put_bytes(&mut line, member);
+    }
+    line.end_line(out, LINE)
 }
 
-// A byte as an index.
-fn wide(byte: u8) -> usize
-    ensures { result ≤ 255 }
+// Fills a list with different ones, from one on, each by what comes next.
+fn fill<T: Copy, F: Fn(T) -> T>(list: &mut [T], from: T, next: F)
+    requires { F.IsAlwaysCallable next }
 {
-    byte as usize
-}
-
-// A byte as a number.
-fn number(byte: u8) -> u64 {
-    byte as u64
-}
-
-// The number of two bytes.
-fn two(low: u8, high: u8) -> usize {
-    wide(high) * 256 + wide(low)
-}
-
-// The number of the head's last eight bytes.
-fn eight(head: &[u8; HEAD]) -> u64 {
-    let mut value = 0;
-    let mut i = HEAD;
-    while 8 < i {
-        i -= 1;
-        value = value << 8 | number(head[i]);
-    }
-    value
-}
-
-// Fills a list of bytes with different ones, from a byte on.
-fn fill_bytes(bytes: &mut [u8], from: u8) {
-    let mut byte = from;
-    for i in 0..bytes.len() {
-        bytes[i] = byte;
-        byte = byte.wrapping_add(37);
-    }
-}
-
-// Fills a list of sizes with different ones, from a byte on.
-fn fill_sizes(sizes: &mut [u64], from: u8) {
-    let mut size = number(from);
-    for i in 0..sizes.len() {
-        sizes[i] = size;
-        size = size.wrapping_add(11400714819323198485);
+    let mut value = from;
+    for item in list {
+        *item = value;
+        value = next(value);
     }
 }
 
 // Puts the number and the place of an answer at the start of the line.
-fn put_fault(line: &mut [u8], fault: Fault) -> usize {
-    let next = put_number(line, 0, number(fault.number));
-    put_next(line, next, fault.place as u64)
+fn put_told(line: &mut Page, refused: Option<Fault>) {
+    let told = Told::from(refused);
+    line.put_number(u64::from(told.number));
+    put_next(line, told.place as u64);
 }
 
 // Puts a space and a number into the line.
-fn put_next(line: &mut [u8], at: usize, n: u64) -> usize {
-    let next = put(line, at, b" ");
-    put_number(line, next, n)
+fn put_next(line: &mut Page, n: u64) {
+    line.put(b" ");
+    line.put_number(n);
 }
 
-// Puts a byte into the line, in hex.
-fn put_byte(line: &mut [u8], at: usize, byte: u8) -> usize {
-    put(line, at, &[hex_digit(byte / 16), hex_digit(byte % 16)])
+// Puts a byte into the line, in hex. A page takes words, so that the two digits are made here.
+fn put_byte(line: &mut Page, byte: u8) {
+    line.put(&[hex_digit(byte / 16), hex_digit(byte % 16)]);
 }
 
 // A number below 16 as a digit in hex.
@@ -304,82 +326,47 @@ fn hex_digit(n: u8) -> u8
 }
 
 // Puts a space and some bytes into the line.
-fn put_bytes(line: &mut [u8], at: usize, bytes: &[u8]) -> usize {
-    if bytes.len() == 0 {
-        return put(line, at, b" -");
+fn put_bytes(line: &mut Page, bytes: &[u8]) {
+    if bytes.is_empty() {
+        return line.put(b" -");
     }
-    let mut next = put(line, at, b" ");
-    for i in 0..bytes.len() {
-        next = put_byte(line, next, bytes[i]);
+    line.put(b" ");
+    for byte in bytes {
+        put_byte(line, *byte);
     }
-    next
 }
 
 // Puts a space and some sizes into the line.
-fn put_sizes(line: &mut [u8], at: usize, sizes: &[u64]) -> usize {
-    if sizes.len() == 0 {
-        return put(line, at, b" -");
+fn put_sizes(line: &mut Page, sizes: &[u64]) {
+    let Some((first, rest)) = sizes.split_first() else {
+        return line.put(b" -");
+    };
+    put_next(line, *first);
+    for size in rest {
+        line.put(b",");
+        line.put_number(*size);
     }
-    let mut next = put_next(line, at, sizes[0]);
-    for i in 1..sizes.len() {
-        next = put(line, next, b",");
-        next = put_number(line, next, sizes[i]);
-    }
-    next
 }
 
-// Puts the member's buffer into the line; where the number is 0, what it makes of the row and whether it is a permutation.
-fn put_member(line: &mut [u8], at: usize, member: &[u8], row: &[u8], number: u8) -> usize {
-    if number != ACCEPTED {
-        return put_bytes(line, at, member);
+// Puts a space and what a member makes of a row into the line, and whether it is a permutation.
+fn put_member(line: &mut Page, member: &[u8], row: &[u8]) {
+    line.put(b" ");
+    for carrier in row {
+        put_byte(line, image(member, *carrier));
     }
-    let next = put_moved(line, at, member, row);
-    put_whether(line, next, is_permutation(member))
-}
-
-// Puts a space and what a member makes of a row into the line.
-fn put_moved(line: &mut [u8], at: usize, member: &[u8], row: &[u8]) -> usize {
-    let mut next = put(line, at, b" ");
-    for i in 0..row.len() {
-        next = put_byte(line, next, image(member, wide(row[i])));
-    }
-    next
-}
-
-// What a member makes of a carrier, or 255 where it says nothing of it.
-fn image(member: &[u8], carrier: usize) -> u8 {
-    if carrier < member.len() {
-        member[carrier]
+    if is_permutation(member) {
+        line.put(b" permutation");
     } else {
-        255
+        line.put(b" none");
     }
 }
 
-// Puts whether a member is a permutation into the line.
-fn put_whether(line: &mut [u8], at: usize, whether: bool) -> usize {
-    if whether {
-        put(line, at, b" permutation")
-    } else {
-        put(line, at, b" none")
-    }
+// What a member makes of a carrier, or 255 where it says nothing of it, as the stored answers have it.
+fn image(member: &[u8], carrier: u8) -> u8 {
+    member.get(usize::from(carrier)).copied().unwrap_or(255)
 }
 
 // Whether each number below the list's length is in the list.
 fn is_permutation(list: &[u8]) -> bool {
-    for x in 0..list.len() {
-        if !has(list, x) {
-            return false;
-        }
-    }
-    true
-}
-
-// Whether a number is in a list.
-fn has(list: &[u8], x: usize) -> bool {
-    for i in 0..list.len() {
-        if wide(list[i]) == x {
-            return true;
-        }
-    }
-    false
+    (0..list.len()).all(|x| list.iter().any(|y| usize::from(*y) == x))
 }

@@ -4,26 +4,18 @@
 // call. Before the first call both are full of 255. A write that fails ends the program with that error.
 #![tactic(auto)]
 
+use folding::fold;
+use ground::Told;
 use std::io;
 use std::io::Write;
 
-// Prints a space and the number.
-fn print_number(out: &mut impl Write, n: u64) -> io::Result<()> {
-    write!(out, " {n}")
-}
-
 // Prints a colon, and each carrier after a space.
 fn print_carriers(out: &mut impl Write, row: &[u8]) -> io::Result<()> {
-    out.write_all(b" :")?;
-    for i in 0..row.len() {
-        print_number(out, wide(row[i]))?;
+    write!(out, " :")?;
+    for carrier in row {
+        write!(out, " {carrier}")?;
     }
     Ok(())
-}
-
-// A carrier as a number to print.
-fn wide(carrier: u8) -> u64 {
-    carrier as u64
 }
 
 // Folds the row and prints what is left.
@@ -34,15 +26,15 @@ fn print_fold(
     first: &mut [u8],
     member: &mut [u8],
 ) -> io::Result<()> {
-    let answer = folding::fold(sheet, row, first, member);
-    let fault = answer.fault;
-    let number = wide(fault.number);
-    write!(out, "{number}")?;
-    print_number(out, fault.place as u64)?;
-    print_number(out, answer.size)?;
+    let (refused, size) = match fold(sheet, row, first, member) {
+        Ok(size) => (None, size),
+        Err(fault) => (Some(fault), 0),
+    };
+    let told = Told::from(refused);
+    write!(out, "{} {} {size}", told.number, told.place)?;
     print_carriers(out, first)?;
     print_carriers(out, member)?;
-    out.write_all(b"\n")
+    writeln!(out)
 }
 
 // Sheet A is two risers that must differ, and three carriers that are all alike; D is the same with the one swap 1 2 0; in F the

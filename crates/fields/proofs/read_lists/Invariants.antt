@@ -4,4 +4,4 @@ use Rattle.fields.specs.Risers.{RisersSoFar}
 use Rattle.fields.proofs.read_lists.Given as goal
 
 abbrev pub invariant-loop-r : goal.invariant-loop-r
-invariant-loop-r l = RisersSoFar l.s l.from l.k l.count l.initial.member l.member l.at l.r
+invariant-loop-r l = RisersSoFar l.s l.from l.k l.count l.initial.listed l.listed l.at l.r

@@ -5,7 +5,7 @@
 -- Assumes nothing.
 use Rattle.std.specs.Prelude.{◌≡◌, Bool, true, false, cond, List, [], ◌∷◌, ◌++◌, ℕ, zero, suc, ◌+◌, ◌≤◌, ◌<◌, leb, eqb, length, take, drop}
 use Rattle.std.proofs.Common.{subst, arith}
-use Rattle.ground.specs.declared.Fault.{Fault}
+use Rattle.ground.specs.Meanings.Sheet.{Fault}
 use Rattle.ground.specs.Meanings.Sheet.{sheet_ends, wrong_count, wrong_carrier, wrong_rule, wrong_pair, no_permutation, list_not_kept, rule_not_kept, bytes_follow, fault, Outcome, got, refused, Reading, and_then, field, checked, byte, two, many, count, carrier, riser, Rule, allowed_pair, rule_that, rule, swap, nothing_more, Sheet, job_sheet, is_listed_in, allowed_by, keeps_lists, keeps_rules, all_new, most_carriers, most_risers, most_rules, most_pairs, most_swaps, Refused}
 
 abbrev LowOutcome : {A : Type 0} → Outcome A → Type 0

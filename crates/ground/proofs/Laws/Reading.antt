@@ -5,7 +5,7 @@ use Rattle.std.specs.Prelude.{◌≡◌, refl, Bool, true, false, cond, ◌&&◌
 use Rattle.std.proofs.Common.{sym, ap, ◌∙◌, subst, arith, get_or-drop, get_or-take, le-leb}
 use Rattle.std.proofs.Math.Path.{fun_ext}
 use Rattle.std.proofs.lemmas.Bool.{lt-leb}
-use Rattle.ground.specs.declared.Fault.{Fault}
+use Rattle.ground.specs.Meanings.Sheet.{Fault}
 use Rattle.ground.specs.Meanings.Sheet.{sheet_ends, fault, Outcome, got, refused, Reading, and_then, field, checked, byte, two, many}
 use Rattle.ground.specs.Laws.Reading.{Walk, All}
 

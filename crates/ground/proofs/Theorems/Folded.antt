@@ -8,7 +8,7 @@ use Rattle.std.specs.Prelude.{◌≡◌, refl, List, ℕ}
 use Rattle.std.proofs.Common.{sym, ap, subst, ◌∙◌, arith}
 use Rattle.std.proofs.Math.Decide.{ℕ_discrete}
 use Rattle.ground.specs.Meanings.Group.{Member, move, First}
-use Rattle.ground.specs.declared.Fault.{Fault}
+use Rattle.ground.specs.Meanings.Sheet.{Fault}
 use Rattle.ground.specs.Meanings.Sheet.{accepted, Sheet, Accepted}
 use Rattle.ground.specs.Meanings.Plans.{Swap, ImageOn}
 use Rattle.ground.specs.Meanings.Folding.{Whole, Folded, folded, not_whole, not_fitting, carried, Folds}

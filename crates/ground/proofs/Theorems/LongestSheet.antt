@@ -7,7 +7,7 @@ use Rattle.std.proofs.Common.{sym, ap, subst, ◌∙◌, arith, length-append}
 use mathlib.Core.List.Memᴰ
 use Rattle.ground.specs.Meanings.Exactly.{◌∈◌}
 use Rattle.ground.specs.Meanings.Group.{identity}
-use Rattle.ground.specs.declared.Fault.{Fault}
+use Rattle.ground.specs.Meanings.Sheet.{Fault}
 use Rattle.ground.specs.Meanings.Sheet.{Sheet, Rule, Accepted, Refused, most_carriers, most_risers, most_rules, most_pairs, most_swaps}
 use Rattle.ground.specs.Meanings.Listing.{Left, Lists}
 use Rattle.ground.proofs.Laws.Permutations.{perm_identity}

@@ -6,7 +6,7 @@ use Rattle.std.specs.Prelude.{◌≡◌, refl, List, ℕ, ◌≤◌, ◌<◌, le
 use Rattle.std.proofs.Common.{sym, ap, subst, ◌∙◌, arith}
 use Rattle.ground.specs.Meanings.Exactly.{Counts}
 use Rattle.ground.specs.Meanings.Group.{move}
-use Rattle.ground.specs.declared.Fault.{Fault}
+use Rattle.ground.specs.Meanings.Sheet.{Fault}
 use Rattle.ground.specs.Meanings.Sheet.{accepted, listed_beyond, fault, no_fault, Sheet, Outcome, got, refused, Accepted, Refused}
 use Rattle.ground.specs.Meanings.Listing.{Line, Notion, on_sheet, Listing, Left, left, ListsOn, beyond_allowance, beyond_room, listed, Lists, room, filled, over, flat, rows_of, sizes_of}
 use Rattle.ground.specs.Meanings.Folding.{Folded, folded, FoldsOn, not_whole, not_fitting, carried, Folds}

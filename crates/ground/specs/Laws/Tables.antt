@@ -11,21 +11,21 @@
 -- Carrier c of riser r is at r · 15 + c, the pair (u, v) of rule q at q · 225 + u · 15 + v, and the rule that binds a and b at
 -- b · 12 + a: those that end at one riser stand together. The swaps are padded to all 15 carriers.
 -- These are definitions: nothing is assumed or proved here.
-use Rattle.std.specs.Prelude.{◌≡◌, ◌⊎◌, List, map, ℕ, ◌+◌, ◌*◌, ◌-◌, ◌≤◌, ◌<◌, length, get_or, take}
+use Rattle.std.specs.Prelude.{◌≡◌, ◌⊎◌, List, map, ℕ, ◌+◌, ◌*◌, ◌-◌, ◌≤◌, ◌<◌, length, get_or, take, replicate}
 use Rattle.ground.specs.Meanings.Exactly.{◌∈◌}
 use Rattle.ground.specs.Meanings.Group.{at}
 use Rattle.ground.specs.Meanings.Sheet.{Sheet, Rule, no_rule, most_carriers, most_risers, most_rules, most_pairs}
 use Rattle.ground.specs.Meanings.Plans.{risers, list, Allows}
+use Rattle.ground.specs.declared.Tables.{Tables}
 use Rattle.ground.specs.Laws.Padding.{pad}
 use Rattle.ground.specs.Laws.Sheets.{Sound}
 
-pub record Tables : Type 0 where
-  pub listed : List ℕ
-  pub allowed : List ℕ
-  pub ends : List ℕ
-
 abbrev pub tables : List ℕ → List ℕ → List ℕ → Tables
 tables l a e = record { listed = l; allowed = a; ends = e }
+
+-- they say nothing
+abbrev pub blank_tables : Tables
+blank_tables = tables (replicate (most_risers * most_carriers) 0) (replicate (most_rules * most_pairs) 0) (replicate (most_risers * most_risers) 0)
 
 -- ---- what the tables say of a sheet
 

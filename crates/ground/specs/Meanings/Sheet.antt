@@ -5,7 +5,8 @@
 -- `do` joins readings: each starts where the one before it ended, and the first refusal is the outcome. So faults are
 -- taken in reading order, and the place of a refusal is the first byte of the field that it is about.
 --
---   Fault              what a refusal tells: its number and its place (declared in src/lib.rt)
+--   number_of r        the number of the refusal r, one of those that src/lib.rt declares
+--   Fault              what a refusal tells: its number and its place
 --   fault q p          the refusal number q at place p; `no_fault` is what an accepted answer has in its stead
 --   field w            w bytes that are one field; `sheet_ends` where the sheet ends before it is whole
 --   checked q test m   what m reads; q, at m's first byte, where the test fails
@@ -16,9 +17,9 @@
 --   Refused s f        the bytes s are refused with the fault f
 --
 -- These are definitions: nothing is assumed or proved here.
-use Rattle.std.specs.Prelude.{◌≡◌, Bool, true, false, cond, not, ◌&&◌, ◌||◌, List, [], ◌∷◌, ◌++◌, map, ℕ, zero, suc, ◌+◌, ltb, leb, eqb, length, get_or, take, drop}
+use Rattle.std.specs.Prelude.{◌≡◌, Bool, true, false, cond, not, ◌&&◌, ◌||◌, List, [], ◌∷◌, ◌++◌, map, ℕ, zero, suc, ◌+◌, ltb, leb, eqb, length, get_or, take, drop, Option, Some, None}
 use Rattle.ground.specs.Meanings.Group.{at}
-use Rattle.ground.specs.declared.Fault.{Fault}
+use Rattle.ground.specs.declared.Refusal.{Refusal}
 
 -- ---- limits
 
@@ -81,11 +82,37 @@ row_not_whole = 12
 abbrev pub buffers_not_fitting : ℕ
 buffers_not_fitting = 13
 
+-- the number of each of the code's refusals
+abbrev pub number_of : Refusal → ℕ
+number_of Refusal.SheetEnds = sheet_ends
+number_of Refusal.WrongCount = wrong_count
+number_of Refusal.WrongCarrier = wrong_carrier
+number_of Refusal.WrongRule = wrong_rule
+number_of Refusal.WrongPair = wrong_pair
+number_of Refusal.NoPermutation = no_permutation
+number_of Refusal.ListNotKept = list_not_kept
+number_of Refusal.RuleNotKept = rule_not_kept
+number_of Refusal.BytesFollow = bytes_follow
+number_of Refusal.BeyondAllowance = opened_beyond
+number_of Refusal.BeyondRoom = listed_beyond
+number_of Refusal.RowNotWhole = row_not_whole
+number_of Refusal.BuffersNotFitting = buffers_not_fitting
+
+-- what a refusal tells
+pub record Fault : Type 0 where
+  pub number : ℕ
+  pub place : ℕ
+
 abbrev pub fault : ℕ → ℕ → Fault
 fault q p = record { number = q; place = p }
 
 abbrev pub no_fault : Fault
 no_fault = fault accepted 0
+
+-- what an answer tells that may be refused
+abbrev pub fault_told : Option Fault → Fault
+fault_told (Some f) = f
+fault_told None = no_fault
 
 -- ---- outcomes and readings
 

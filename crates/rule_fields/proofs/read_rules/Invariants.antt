@@ -4,4 +4,4 @@ use Rattle.rule_fields.specs.Rules.{RulesSoFar}
 use Rattle.rule_fields.proofs.read_rules.Given as goal
 
 abbrev pub invariant-loop-q : goal.invariant-loop-q
-invariant-loop-q l = RulesSoFar l.s l.from l.n l.count l.member l.initial.allowed l.initial.ends l.allowed l.ends l.at l.least l.q
+invariant-loop-q l = RulesSoFar l.s l.from l.n l.count l.listed l.initial.allowed l.initial.ends l.allowed l.ends l.at l.least l.q

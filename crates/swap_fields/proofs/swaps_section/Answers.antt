@@ -1,17 +1,22 @@
 -- `swaps_section` answers what the definition says of the swaps' section. It is the count, and then as many items.
 -- Assumes nothing.
+use Rattle.std.proofs.Common.{arith, refl}
+use Rattle.fields.specs.Answers.{tell_section, tell_count, answer_passed, answer_refused, section_refused}
 use Rattle.fields.specs.Fields.{count_most}
 use Rattle.fields.specs.Sections.{section_no_count, section_no_item, section_is}
+use Rattle.swap_fields.specs.Swaps.{front_read}
 use Rattle.swap_fields.proofs.swaps_section.Goals as goal
 
-pub read_swaps-requires : goal.read_swaps-requires
-read_swaps-requires c = (c.requires, count_most _ _ _ _ c.in-Read.ensures)
+pub returns-in_err-count : goal.returns-in_err-count
+returns-in_err-count c = answer_passed tell_count _ c.from_residual.ensures.1 (section_no_count _ _ _ _ _ c.in_err-count.ensures)
 
-pub returns-in-Refused : goal.returns-in-Refused
-returns-in-Refused c = section_no_count _ _ _ _ _ c.in-Refused.ensures
+pub slice_bounds-read_swaps-end : goal.slice_bounds-read_swaps-end
+slice_bounds-read_swaps-end c = omega (arith, count_most _ _ _ _ c.in_ok-count.ensures)
 
-pub returns-in-Refused-read_swaps : goal.returns-in-Refused-read_swaps
-returns-in-Refused-read_swaps c = section_no_item _ _ _ _ _ c.in-Read.ensures c.read_swaps.ensures c.in-Refused-read_swaps.is
+pub returns-in_err-next : goal.returns-in_err-next
+returns-in_err-next c =
+    let read = front_read _ _ _ _ _ c.read_swaps.ensures (omega (arith, count_most _ _ _ _ c.in_ok-count.ensures)) in
+    answer_passed tell_count _ c.from_residual-in_err-next.ensures.1 (section_no_item _ _ _ _ _ c.in_ok-count.ensures (answer_refused tell_section (section_refused read c.in_err-next.was)) refl)
 
-pub returns-in-Read-read_swaps : goal.returns-in-Read-read_swaps
-returns-in-Read-read_swaps c = section_is _ _ _ _ _ c.in-Read.ensures c.read_swaps.ensures c.in-Read-read_swaps.is
+pub returns : goal.returns
+returns c = section_is _ _ _ _ _ c.in_ok-count.ensures (front_read _ _ _ _ _ c.read_swaps.ensures (omega (arith, count_most _ _ _ _ c.in_ok-count.ensures))) c.in_ok-next.was

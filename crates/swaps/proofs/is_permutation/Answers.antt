@@ -1,21 +1,23 @@
 use native.Mathlib.Omega.{arith}
-use Rattle.swaps.specs.Marking.{tested_many, tested_start, tested_high, tested_again, tested_more, tested_end}
+use Rattle.std.proofs.Common.{inl, inr}
+use Rattle.swaps.specs.Marking.{tested_start, tested_out, tested_more, tested_end}
 use Rattle.swaps.proofs.is_permutation.Goals as goal
+use Rattle.swaps.proofs.is_permutation.Goals.{then-k-c-via-then-k-c, then-k-c-via-else-k-c+then-stood-c}
 
-pub returns-then-k-gt-WIDTH : goal.returns-then-k-gt-WIDTH
-returns-then-k-gt-WIDTH c = tested_many 15 c.args.bytes.now (omega arith)
-
-pub loop-i-init : goal.loop-i-init
-loop-i-init c = tested_start 15 _ (omega arith)
+pub loop-c-init : goal.loop-c-init
+loop-c-init c = tested_start 15 _ (omega arith)
 
 pub returns-then-k-c : goal.returns-then-k-c
-returns-then-k-c c = tested_high c.loop-i.invariant (omega arith) (omega arith)
+returns-then-k-c c =
+    elim c.then-k-c.branch [
+      | then-k-c-via-then-k-c w ↦ tested_out c.loop-c.invariant c.loop-c-test.true (inl (rw (← c.from-c.ensures) w.if-k-c.true))
+      | then-k-c-via-else-k-c+then-stood-c w ↦ tested_out c.loop-c.invariant c.loop-c-test.true (inr (rw (← c.from-c.ensures) w.if-stood-c.true))
+    ]
 
-pub returns-then-marks-c-eq1 : goal.returns-then-marks-c-eq1
-returns-then-marks-c-eq1 c = tested_again c.loop-i.invariant (omega arith) (omega arith) c.if-marks-c-eq1.true
-
-pub loop-i-preserved : goal.loop-i-preserved
-loop-i-preserved c = tested_more c.loop-i.invariant (omega arith) (omega arith) c.if-marks-c-eq1.false
+pub loop-c-preserved : goal.loop-c-preserved
+loop-c-preserved c =
+    let e = c.from-c.ensures in
+    rw e (tested_more c.loop-c.invariant c.loop-c-test.true (rw (← e) c.if-k-c.false) (rw (← e) c.if-stood-c.false))
 
 pub returns : goal.returns
-returns c = tested_end c.loop-i.invariant (omega arith)
+returns c = tested_end c.loop-c.invariant c.loop-c-test.false

@@ -3,5 +3,5 @@
 use Rattle.swaps.specs.Marking.{Tested}
 use Rattle.swaps.proofs.is_permutation.Given as goal
 
-abbrev pub invariant-loop-i : goal.invariant-loop-i
-invariant-loop-i l = Tested 15 l.bytes l.marks l.i
+abbrev pub invariant-loop-c : goal.invariant-loop-c
+invariant-loop-c l = Tested 15 l.bytes l.stood l.c-index

@@ -5,5 +5,5 @@ use Rattle.ground.specs.Meanings.Group.{at}
 use Rattle.ground.specs.Laws.Filling.{Filled}
 use Rattle.swaps.proofs.move_row.Given as goal
 
-abbrev pub invariant-loop-i : goal.invariant-loop-i
-invariant-loop-i l = Filled (λ (j : ℕ). at l.g (at l.initial.row j)) l.initial.row l.row l.i
+abbrev pub invariant-loop-c : goal.invariant-loop-c
+invariant-loop-c l = Filled (λ (j : ℕ). at l.g (at l.fn.row j)) l.fn.row l.row l.c-index

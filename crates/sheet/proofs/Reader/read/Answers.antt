@@ -1,28 +1,56 @@
--- `Reader::read` answers what the definition says of the whole sheet. It is four calls of `Reader::next` and one of `Reader::whole`, and each reader has the sheet of the one before.
--- One law says what a call does (`one_more`): from a reader that has read i sections to one that has read one section more. After four, `reached_whole` says what the tables are and what `Reader::whole` answers (`whole_of`).
+-- `Reader::read` answers what the definition says of the whole sheet: each section that is read takes the reader further, and each refusal
+-- refuses the whole.
 -- Assumes nothing.
-use Rattle.std.proofs.Common.{◌≡◌, sym, ap, ◌∙◌, subst, ℕ, suc, List, Bor}
-use Rattle.ground.specs.Meanings.Sheet.{Sheet, job_sheet}
-use Rattle.fields.specs.Answers.{Answers}
-use Rattle.sheet.specs.declared.Found.{Found}
-use Rattle.sheet.specs.declared.Head.{Head}
-use Rattle.sheet.specs.Serves.{Serves, tell_sheet}
-use Rattle.sheet.specs.Steps.{Reached, Goes, whole_at, reached_whole}
+use Rattle.std.proofs.Common.{subst, ◌≤◌, ℕ}
+use Rattle.ground.specs.Meanings.Sheet.{most_risers}
+use Rattle.sheet.specs.Steps.{carriers_to, carriers_out, risers_to, risers_out, rules_to, rules_out, swaps_to, swaps_out, end_to, end_out, handed_up}
 use Rattle.sheet.proofs.Reader.read.Goals as goal
 
-one_more : {s t : List ℕ} {p : ℕ} {f : Found} {M T E : List ℕ} {G : List (List ℕ)} {p' : ℕ} {f' : Found} {M' T' E' : List ℕ} {G' : List (List ℕ)} (i : ℕ)
-    → t ≡ s → Goes t p f M T E G p' f' M' T' E' G' → Reached i s p f M T E G → Reached (suc i) s p' f' M' T' E' G'
-one_more {s} {t} {p} {f} {M} {T} {E} {G} {p'} {f'} {M'} {T'} {E'} {G'} i e g h = subst (λ (x : List ℕ). Reached (suc i) x p' f' M' T' E' G') e (g.on i (subst (λ (x : List ℕ). Reached i x p f M T E G) (sym e) h))
+pub returns-in_err-carriers : goal.returns-in_err-carriers
+returns-in_err-carriers c = handed_up (carriers_out c.args.self c.carriers.ensures c.in_err-carriers.was) c.from_residual.ensures.1
 
-whole_of : {s t : List ℕ} (p : ℕ) (f : Found) {M T E : List ℕ} {G : List (List ℕ)} {r : Head}
-    → t ≡ s → r ≡ whole_at t p f → Reached 4 s p f M T E G → Answers tell_sheet (job_sheet s 0) r (λ (X : Sheet). Serves X M T E G)
-whole_of {s} {t} p f {M} {T} {E} {G} {r} e g h = rw (g, e) (reached_whole s p f M T E G h)
+pub risers-requires : goal.risers-requires
+risers-requires c = (carriers_to c.args.self c.carriers.ensures c.in_ok-carriers.was).1.few
+
+pub returns-in_err-risers : goal.returns-in_err-risers
+returns-in_err-risers c =
+    let k = carriers_to c.args.self c.carriers.ensures c.in_ok-carriers.was in
+    handed_up (risers_out k c.requires.says_nothing c.risers.ensures c.in_err-risers.was) c.from_residual-in_err-risers.ensures.1
+
+pub rules-requires : goal.rules-requires
+rules-requires c =
+    let k = carriers_to c.args.self c.carriers.ensures c.in_ok-carriers.was in
+    let n = (risers_to k c.requires.says_nothing c.risers.ensures c.in_ok-risers.was).1 in
+    subst (λ (x : ℕ). x ≤ most_risers) n.number n.few
+
+pub returns-in_err-rules : goal.returns-in_err-rules
+returns-in_err-rules c =
+    let k = carriers_to c.args.self c.carriers.ensures c.in_ok-carriers.was in
+    let n = risers_to k c.requires.says_nothing c.risers.ensures c.in_ok-risers.was in
+    handed_up (rules_out c.rules.new.tables n c.requires.says_nothing c.rules.ensures.counted c.in_err-rules.was) c.from_residual-in_err-rules.ensures.1
+
+pub swaps-requires : goal.swaps-requires
+swaps-requires c = (carriers_to c.args.self c.carriers.ensures c.in_ok-carriers.was).1.few
+
+pub returns-in_err-count : goal.returns-in_err-count
+returns-in_err-count c =
+    let k = carriers_to c.args.self c.carriers.ensures c.in_ok-carriers.was in
+    let n = risers_to k c.requires.says_nothing c.risers.ensures c.in_ok-risers.was in
+    let m = rules_to c.rules.new.tables n c.requires.says_nothing c.rules.ensures.counted c.rules.ensures.same_lists c.in_ok-rules.was in
+    handed_up (swaps_out m c.requires.all_stay c.swaps.ensures c.in_err-count.was) c.from_residual-in_err-count.ensures.1
+
+pub returns-in_err-end : goal.returns-in_err-end
+returns-in_err-end c =
+    let k = carriers_to c.args.self c.carriers.ensures c.in_ok-carriers.was in
+    let n = risers_to k c.requires.says_nothing c.risers.ensures c.in_ok-risers.was in
+    let m = rules_to c.rules.new.tables n c.requires.says_nothing c.rules.ensures.counted c.rules.ensures.same_lists c.in_ok-rules.was in
+    let l = swaps_to m c.requires.all_stay c.swaps.ensures c.in_ok-count.was in
+    handed_up (end_out c.in_ok-count.reader l c.end.ensures c.in_err-end.was) c.from_residual-in_err-end.ensures.1
 
 pub returns : goal.returns
 returns c =
-    let first = c.next.ensures.0 in
-    let second = c.next-2.ensures.0 ∙ first in
-    let third = c.next-3.ensures.0 ∙ second in
-    let fourth = c.next-4.ensures.0 ∙ third in
-    let now = λ (x : Bor (List ℕ)). x.now in
-    whole_of _ _ (ap now fourth) c.whole.ensures (one_more 3 (ap now third) c.next-4.ensures.1 (one_more 2 (ap now second) c.next-3.ensures.1 (one_more 1 (ap now first) c.next-2.ensures.1 (c.next.ensures.1.on 0 c.requires))))
+    let k = carriers_to c.args.self c.carriers.ensures c.in_ok-carriers.was in
+    let n = risers_to k c.requires.says_nothing c.risers.ensures c.in_ok-risers.was in
+    let m = rules_to c.rules.new.tables n c.requires.says_nothing c.rules.ensures.counted c.rules.ensures.same_lists c.in_ok-rules.was in
+    let l = swaps_to m c.requires.all_stay c.swaps.ensures c.in_ok-count.was in
+    end_to c.in_ok-count.reader l c.end.ensures c.in_ok-end.was

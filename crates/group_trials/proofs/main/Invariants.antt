@@ -1,6 +1,0 @@
--- `main` ends: the turns that are left fall. Nothing has to hold from turn to turn.
--- Assumes nothing.
-use Rattle.group_trials.proofs.main.Given as goal
-
-abbrev pub decreases-loop-turns : goal.decreases-loop-turns
-decreases-loop-turns l = l.turns
