@@ -3,7 +3,7 @@
 // `as` stands where a number is proved small enough, or where a size is made 64 bits wide: `From` has neither.
 #![tactic(auto)]
 
-use ground::LONGEST;
+use ground::{Fault, LONGEST};
 use listing::{Listed, list};
 use std::io;
 use std::io::Write;
@@ -37,11 +37,20 @@ fn report(out: &mut impl Write, sheet: &[u8]) -> io::Result<()> {
     let mut sizes = [0u64; SIZES];
     match list(sheet, ALLOWANCE, &mut bytes, &mut sizes) {
         Ok(listed) => print_listing(out, listed, &bytes, &sizes, risers(sheet)),
-        Err(refused) => {
-            let fault = refused.fault();
-            writeln!(out, "refused {fault}")
-        }
+        Err(refused) => print_refusal(out, refused.fault()),
     }
+}
+
+// Prints the number and the place of a refusal, on a page that has room for one line. (A page and not `writeln!`, which would write the
+// line in five pieces: others that write to the same end would come between them.)
+fn print_refusal(out: &mut impl Write, fault: Fault) -> io::Result<()> {
+    let mut line = [0u8; LINE];
+    let mut page = Page::new(&mut line);
+    page.put(b"refused ");
+    page.put_number(u64::from(fault.number()));
+    page.put(b" at ");
+    page.put_number(fault.place() as u64);
+    page.end_line(out, LINE)
 }
 
 // The number of risers that an accepted sheet states. (Its listing says that it has one; else there would be none.)
