@@ -21,19 +21,20 @@ fn read_swap(input: &mut impl Read) -> io::Result<Option<[u8; CARRIERS]>> {
     Ok((read == CARRIERS).then_some(swap))
 }
 
-// Reads this many swaps; none where one is cut short.
+// Reads this many swaps, all of them also where one is cut short, so that what comes next is a group; none then.
 fn read_swaps(
     input: &mut impl Read,
     count: u8,
 ) -> io::Result<Option<ArrayVec<[u8; CARRIERS], MOST>>> {
     let mut swaps = ArrayVec::new();
+    let mut whole = true;
     for _ in 0..count {
-        let Some(swap) = read_swap(input)? else {
-            return Ok(None);
-        };
-        swaps.push(swap);
+        match read_swap(input)? {
+            Some(swap) => swaps.push(swap),
+            None => whole = false,
+        }
     }
-    Ok(Some(swaps))
+    Ok(whole.then_some(swaps))
 }
 
 // Writes the lengths with one space between two, and ends the line.
