@@ -210,6 +210,11 @@ impl From<Option<Fault>> for Told {
 
 // The number and the place, as a program prints them.
 impl fmt::Display for Fault {
+    ghost use Rattle.std.specs.Prelude.{Some};
+    ghost use Rattle.ground.specs.Laws.Refusals.{text_of};
+
+    ghost output = { λ f. Some (text_of f) };
+
     fn fmt<W: fmt::Write>(&self, f: &mut fmt::Formatter<W>) -> fmt::Result {
         write!(f, "{} at {}", self.number(), self.place)
     }

@@ -92,6 +92,12 @@ impl Refused {
 
 // The number and the place of the refusal, as a program prints them.
 impl fmt::Display for Refused {
+    ghost use Rattle.std.specs.Prelude.{Some};
+    ghost use Rattle.ground.specs.Laws.Refusals.{text_of};
+    ghost use Rattle.listing.specs.Answering.{fault_of};
+
+    ghost output = { λ refused. Some (text_of (fault_of refused)) };
+
     fn fmt<W: fmt::Write>(&self, f: &mut fmt::Formatter<W>) -> fmt::Result {
         write!(f, "{}", self.fault())
     }

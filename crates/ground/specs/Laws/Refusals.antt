@@ -1,10 +1,13 @@
--- The refusal of each number, which gives a fault back its refusal.
+-- The refusal of each number, which gives a fault back its refusal, and a fault as it is printed.
 --
 --   refusal_of n   the refusal whose number is n; for what is no refusal's number the last one
+--   text_of f      the number and the place of f in decimal, with ` at ` between them
 --
 -- That it undoes `number_of` is the law of the model of `Fault` in src/lib.rt.
 -- These are definitions: nothing is assumed or proved here.
-use Rattle.std.specs.Prelude.{ℕ, cond, eqb}
+use Rattle.std.specs.Prelude.{List, ◌++◌, ℕ, cond, eqb, codes}
+use Rattle.std.specs.Fmt.{decimal}
+use Rattle.ground.specs.Meanings.Sheet.{Fault}
 use Rattle.ground.specs.declared.Refusal.{Refusal}
 
 abbrev pub refusal_of : ℕ → Refusal
@@ -22,3 +25,6 @@ refusal_of n =
     (cond (eqb n 11) Refusal.BeyondRoom
     (cond (eqb n 12) Refusal.RowNotWhole
     Refusal.BuffersNotFitting))))))))))))
+
+abbrev pub text_of : Fault → List ℕ
+text_of f = decimal f.number ++ codes " at " ++ decimal f.place
