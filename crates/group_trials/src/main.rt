@@ -21,7 +21,7 @@ fn read_swap(input: &mut impl Read) -> io::Result<Option<[u8; CARRIERS]>> {
     Ok((read == CARRIERS).then_some(swap))
 }
 
-// Reads this many swaps, all of them also where one is cut short, so that what comes next is a group; none then.
+// Reads this many swaps; none where one is cut short. All are read then too, so that what comes after them is the next group.
 fn read_swaps(
     input: &mut impl Read,
     count: u8,
