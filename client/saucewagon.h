@@ -10,8 +10,8 @@
  * that number), none is NULL, also where the length is 0, and nothing that is written overlaps anything else that is handed over.
  * Nothing else is asked: no content of any list is trusted, and no call fails to return.
  * A call keeps nothing, calls nothing back and uses no memory of its own but the stack, so that calls on different lists may run side
- * by side. The most stack that a listing was seen to take is 116,296 bytes, in a thread of 120 KiB (of the C library glibc, which keeps
- * some of it for itself); a folding took 46,440, in a thread of 52 KiB. Have 128 KiB. Measured on x86-64 by client/stack.
+ * by side. The most stack that a listing was seen to take is 116,312 bytes, in a thread of 120 KiB (of the C library glibc, which keeps
+ * some of it for itself); a folding took 43,464, in a thread of 48 KiB. Have 128 KiB. Measured on x86-64 by client/stack.
  */
 #ifndef SAUCEWAGON_H
 #define SAUCEWAGON_H
