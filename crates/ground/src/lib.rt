@@ -208,7 +208,7 @@ impl From<Option<Fault>> for Told {
     }
 }
 
-// The number and the place, as a program prints them.
+// The number and the place, as text.
 impl fmt::Display for Fault {
     ghost use Rattle.std.specs.Prelude.{Some};
     ghost use Rattle.ground.specs.Laws.Refusals.{text_of};

@@ -90,7 +90,7 @@ impl Refused {
     }
 }
 
-// The number and the place of the refusal, as a program prints them.
+// The number and the place of the refusal, as text.
 impl fmt::Display for Refused {
     ghost use Rattle.std.specs.Prelude.{Some};
     ghost use Rattle.ground.specs.Laws.Refusals.{text_of};
